@@ -1,0 +1,11 @@
+pub mod Tree
+pub mod Put
+pub mod Entry
+pub mod Step
+pub mod Derivable
+pub mod TreeCode
+pub mod Item
+pub mod Bank
+pub mod Rule
+pub mod Known
+pub mod Record
