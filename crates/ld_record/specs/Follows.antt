@@ -1,0 +1,102 @@
+-- When a judgement follows from earlier ones by a rule, as facts about its parts. The relation that reads like the rule
+-- table is FollowsBy of ld_terms, to which each of these leads.
+use Rattle.std.specs.Prelude.{◌≡◌, ℕ, ◌+◌, ◌<◌, [], length, slice_index_or}
+use Rattle.ld_terms.specs.Tree.{Tree, Star, Box, Pi, Const, Trees, Nil, ◌▸◌}
+use Rattle.ld_terms.specs.Put.{lift}
+use Rattle.ld_terms.specs.Entry.{Entry, Body, Defined, Primitive, Env}
+use Rattle.ld_terms.specs.Derivable.{IsSort}
+use Rattle.ld_terms.specs.Known.{Known, Judgement, judgement_at, no_judgement, primitive_entry}
+use Rattle.ld_terms.specs.Rule.{Rule}
+use Rattle.ld_record.specs.declared.record.JudgeId.{JudgeId}
+use Rattle.ld_record.specs.declared.record.Step.{Step}
+use Rattle.ld_record.specs.declared.record.Step.TheVariants as step
+
+abbrev pub rule_of : Step → Rule
+rule_of step.Sort = Rule.Sort
+rule_of (step.Weak n m) = Rule.Weak n.0 m.0
+rule_of (step.Form n m) = Rule.Form n.0 m.0
+rule_of (step.Def n) = Rule.Def n.0
+rule_of (step.DefPrim n) = Rule.DefPrim n.0
+rule_of (step.Inst n) = Rule.Inst n.0 []
+rule_of (step.InstPrim n) = Rule.InstPrim n.0 []
+
+abbrev pub entry_at : Env → ℕ → Entry
+entry_at env k = slice_index_or env k (primitive_entry [] no_judgement)
+
+abbrev pub IsDefined : Body → Type 0
+IsDefined (Defined t) = Unit {0}
+IsDefined Primitive = ⊥
+
+-- A premise: it is there, over as many entries.
+pub record IsPremise (known : Known) (s : Judgement) (n : JudgeId) : Type 0 where
+  pub live : n.0 < length known.nodes
+  pub entries : (judgement_at known n.0).entries ≡ s.entries
+
+pub record BySort (s : Judgement) : Type 0 where
+  pub entries : s.entries ≡ 0
+  pub context : s.context ≡ Nil
+  pub term : s.term ≡ Star
+  pub type : s.type ≡ Box
+
+pub record ByWeak (known : Known) (s : Judgement) (n m : JudgeId) : Type 0 where
+  pub first : IsPremise known s n
+  pub second : IsPremise known s m
+  pub same : (judgement_at known m.0).context ≡ (judgement_at known n.0).context
+  pub sort : IsSort (judgement_at known m.0).type
+  pub context : s.context ≡ (judgement_at known n.0).context ▸ (judgement_at known m.0).term
+  pub term : s.term ≡ lift (judgement_at known n.0).term 1 0
+  pub type : s.type ≡ lift (judgement_at known n.0).type 1 0
+
+pub record ByForm (known : Known) (s : Judgement) (n m : JudgeId) : Type 0 where
+  pub first : IsPremise known s n
+  pub second : IsPremise known s m
+  pub outer : (judgement_at known n.0).context ≡ s.context
+  pub inner : (judgement_at known m.0).context ≡ s.context ▸ (judgement_at known n.0).term
+  pub domain : IsSort (judgement_at known n.0).type
+  pub range : IsSort (judgement_at known m.0).type
+  pub term : s.term ≡ Pi (judgement_at known n.0).term (judgement_at known m.0).term
+  pub type : s.type ≡ (judgement_at known m.0).type
+
+-- the same judgement over one entry less, which has a body or is a primitive
+pub record Over (known : Known) (s : Judgement) (n : JudgeId) : Type 0 where
+  pub live : n.0 < length known.nodes
+  pub same : s ≡ record (judgement_at known n.0) { entries = (judgement_at known n.0).entries + 1 }
+  pub there : (judgement_at known n.0).entries < length known.env
+
+pub record ByDef (known : Known) (s : Judgement) (n : JudgeId) : Type 0 where
+  pub over : Over known s n
+  pub body : IsDefined (entry_at known.env (judgement_at known n.0).entries).body
+
+pub record ByDefPrim (known : Known) (s : Judgement) (n : JudgeId) : Type 0 where
+  pub over : Over known s n
+  pub body : (entry_at known.env (judgement_at known n.0).entries).body ≡ Primitive
+
+-- an instance of an entry without parameters
+pub record Instance (known : Known) (s : Judgement) (n : JudgeId) : Type 0 where
+  pub star : IsPremise known s n
+  pub context : (judgement_at known n.0).context ≡ s.context
+  pub star_term : (judgement_at known n.0).term ≡ Star
+  pub star_type : (judgement_at known n.0).type ≡ Box
+  pub number : ℕ
+  pub below : number < s.entries
+  pub there : number < length known.env
+  pub params : (entry_at known.env number).params ≡ Nil
+  pub term : s.term ≡ Const number Nil
+  pub type : s.type ≡ (entry_at known.env number).type
+
+pub record ByInst (known : Known) (s : Judgement) (n : JudgeId) : Type 0 where
+  pub instance : Instance known s n
+  pub body : IsDefined (entry_at known.env instance.number).body
+
+pub record ByInstPrim (known : Known) (s : Judgement) (n : JudgeId) : Type 0 where
+  pub instance : Instance known s n
+  pub body : (entry_at known.env instance.number).body ≡ Primitive
+
+abbrev pub Follows : Known → Judgement → Step → Type 0
+Follows known s step.Sort = BySort s
+Follows known s (step.Weak n m) = ByWeak known s n m
+Follows known s (step.Form n m) = ByForm known s n m
+Follows known s (step.Def n) = ByDef known s n
+Follows known s (step.DefPrim n) = ByDefPrim known s n
+Follows known s (step.Inst n) = ByInst known s n
+Follows known s (step.InstPrim n) = ByInstPrim known s n

@@ -1,0 +1,8 @@
+//! The records of a derivation, each an instance of its rule over earlier ones.
+#![tactic(auto)]
+
+mod deriv;
+mod record;
+
+pub use deriv::Deriv;
+pub use record::{CtxId, Judge, JudgeId, Kept, Step};

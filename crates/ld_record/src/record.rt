@@ -1,0 +1,64 @@
+//! What a derivation keeps.
+ghost use Rattle.std.specs.Prelude.{◌≡◌};
+
+use fb_base::Text;
+use ld_terms::TermId;
+
+/// The number of a judgement, counted from 0 in the order in which judgements were kept.
+#[derive(Clone, Copy, Debug, PartialEq, Eq)]
+pub struct JudgeId(pub(crate) usize);
+
+/// The number of a context. The empty context has the number 0.
+#[derive(Clone, Copy, Debug, PartialEq, Eq)]
+pub struct CtxId(pub(crate) usize);
+
+/// Over the first of the entries, so many, and in a context, a term has a type.
+#[derive(Clone, Copy, Debug)]
+pub struct Judge {
+    pub entries: u32,
+    pub ctx: CtxId,
+    pub term: TermId,
+    pub of: TermId,
+}
+
+/// A rule with the judgements that are its premises, in the order of the rule table.
+#[derive(Clone, Copy, Debug)]
+pub enum Step {
+    Sort,
+    Weak(JudgeId, JudgeId),
+    Form(JudgeId, JudgeId),
+    Def(JudgeId),
+    DefPrim(JudgeId),
+    /// An instance of an entry that has a body and no parameters.
+    Inst(JudgeId),
+    /// An instance of a primitive that has no parameters.
+    InstPrim(JudgeId),
+}
+
+/// A record.
+#[derive(Debug, Drop)]
+pub enum Kept {
+    /// A context extended by a term.
+    Context(CtxId, TermId),
+    Node(Judge, Step),
+    /// An entry of a judgement, a primitive or not, under a name.
+    Entry(Text, JudgeId, bool),
+}
+
+impl JudgeId {
+    /// The number itself.
+    pub fn number(&self) -> usize
+        ensures { result ≡ self.now.0 }
+    {
+        self.0
+    }
+}
+
+impl CtxId {
+    /// The number itself.
+    pub fn number(&self) -> usize
+        ensures { result ≡ self.now.0 }
+    {
+        self.0
+    }
+}
