@@ -1,0 +1,160 @@
+-- What a theory keeps true, as its parts change.
+use Rattle.std.proofs.Common.{◌≡◌, ◌<◌, ◌≤◌, ◌+◌, ◌-◌, ◌^◌, ◌++◌, ◌∷◌, [], ℕ, zero, suc, List, length, map, take, get_or, set, refl, ap, sym, ◌∙◌, subst, arith, inl, inr, ◌⊎◌, ◌≢◌}
+use Rattle.std.proofs.lemmas.List.{map-append, get_or_append_left, get_or_at, length_push, length-map, length-set, length-take, get_or-set_other, get_or-set_same, get_or-take}
+use Rattle.std.proofs.Math.ListN.{get_or-map}
+use Rattle.std.proofs.lemmas.Bool.{cases_lt}
+use Rattle.ld_terms.specs.Tree.{Tree, Trees, Nil, Star, Box, ◌▸◌, count}
+use Rattle.ld_terms.specs.Item.{Item, One}
+use Rattle.ld_terms.specs.Bank.{Extends, StandsFor}
+use Rattle.ld_terms.specs.Entry as named
+use Rattle.ld_terms.specs.declared.bank.TermId.{TermId}
+use Rattle.ld_terms.specs.Known.{Known, Judgement, nothing, context_at, judgement_at, no_judgement, primitive_entry, with_entry}
+use Rattle.ld_env.specs.Named.{Named}
+use Rattle.ld_env.specs.Entries.{env_of, AreLive}
+use Rattle.ld_record.specs.declared.record.JudgeId.{JudgeId}
+use Rattle.ld_record.specs.declared.record.CtxId.{CtxId}
+use Rattle.ld_record.specs.declared.record.Kept.{Kept}
+use Rattle.ld_record.specs.Follows.{entry_at}
+use Rattle.ld_record.specs.Kept.{known_of, IsSound, Begins}
+use Rattle.ld_record.specs.Growth.{Knows, KnowsContext, Adds, over_first}
+use Rattle.ld_record.proofs.Growing.{known_later, sound_later}
+use Rattle.ld_infer.specs.declared.theory.Level.{Level}
+use Rattle.ld_infer.specs.Standing.{Standing, known, env, last_of, contexts_of, context, here, Continues}
+use Rattle.ld_infer.specs.Theory.{IsLevel, no_level, level_at, AreLevels, HaveNoParameters, IsTheory}
+
+-- a level, where contexts and judgements are added
+level_later : (old new : Known) (n : ℕ) (l : Level) → Adds old new → IsLevel old n l → IsLevel new n l
+level_later old new n l adds h =
+    let ctx = adds.context l.ctx.0 h.context in
+    let node = adds.node l.star.0 h.star in
+    record {
+      context = omega (arith, adds.contexts, h.context);
+      variables_are = ap count ctx ∙ h.variables_are;
+      star = omega (arith, adds.nodes, h.star);
+      entries = omega (arith, ap (λ (s : Judgement). s.entries) node, ap length adds.env, h.entries);
+      same = ap (λ (s : Judgement). s.context) node ∙ h.same ∙ sym ctx;
+      term = ap (λ (s : Judgement). s.term) node ∙ h.term;
+      type = ap (λ (s : Judgement). s.type) node ∙ h.type;
+    }
+
+pub levels_later : (old new : Known) (levels : List Level) → Adds old new → AreLevels old levels → AreLevels new levels
+levels_later old new levels adds h = record { some = h.some; each = λ i l. level_later old new i (level_at levels i) adds (h.each i l) }
+
+-- terms are added to the bank
+pub theory_later : (old new : List Item) (kept : List Kept) (entries : List Named) (star box : TermId) (levels : List Level)
+    → Extends old new → IsTheory old kept entries star box levels → IsTheory new kept entries star box levels
+theory_later old new kept entries star box levels e h =
+    let same : known_of old kept ≡ known_of new kept = sym (known_later old new kept e h.sound) in
+    let Levels : Known → Type 0 = λ k. AreLevels k levels in
+    let Plain : Known → Type 0 = λ k. HaveNoParameters k.env in
+    let Room : Known → Type 0 = λ k. length k.env < 2 ^ 32 in
+    record {
+      sound = sound_later old new kept e h.sound;
+      env = env_later old new entries e h.live ∙ h.env ∙ ap (λ (k : Known). k.env) same;
+      live = live_later old new entries e h.live;
+      star = record { live = omega (arith, e.longer, h.star.live); item = e.kept star h.star.live ∙ h.star.item };
+      box = record { live = omega (arith, e.longer, h.box.live); item = e.kept box h.box.live ∙ h.box.item };
+      levels_are = subst Levels same h.levels_are;
+      plain = subst Plain same h.plain;
+      room = subst Room same h.room;
+    }
+
+-- contexts and judgements are added
+pub theory_adds : (items : List Item) (old new : List Kept) (entries : List Named) (star box : TermId) (levels : List Level)
+    → IsSound items new → Adds (known_of items old) (known_of items new) → IsTheory items old entries star box levels → IsTheory items new entries star box levels
+theory_adds items old new entries star box levels sound adds h =
+    let same = sym adds.env in
+    let Plain : named.Env → Type 0 = HaveNoParameters in
+    let Room : named.Env → Type 0 = λ env. length env < 2 ^ 32 in
+    record {
+      sound = sound;
+      env = h.env ∙ same;
+      live = h.live;
+      star = h.star;
+      box = h.box;
+      levels_are = levels_later (known_of items old) (known_of items new) levels adds h.levels_are;
+      plain = subst Plain same h.plain;
+      room = subst Room same h.room;
+    }
+
+-- the levels change, and nothing else
+pub theory_levels : (items : List Item) (kept : List Kept) (entries : List Named) (star box : TermId) (old new : List Level)
+    → AreLevels (known_of items kept) new → IsTheory items kept entries star box old → IsTheory items kept entries star box new
+theory_levels items kept entries star box old new are h = record {
+  sound = h.sound;
+  env = h.env;
+  live = h.live;
+  star = h.star;
+  box = h.box;
+  levels_are = are;
+  plain = h.plain;
+  room = h.room;
+}
+
+-- the level of a judgement for `* : box` in its context
+pub new_level : (known : Known) (n : ℕ) (ctx : CtxId) (star : JudgeId) (s : Judgement) → ctx.0 < length known.contexts → count (context_at known ctx.0) ≡ n
+    → Knows known star s → s.entries ≤ length known.env → s.context ≡ context_at known ctx.0 → s.term ≡ Star → s.type ≡ Box → IsLevel known n (record { ctx = ctx; star = star })
+new_level known n ctx star s live many knows within context_is term type = record {
+  context = live;
+  variables_are = many;
+  star = knows.live;
+  entries = omega (arith, ap (λ (q : Judgement). q.entries) knows.is);
+  same = ap (λ (q : Judgement). q.context) knows.is ∙ context_is;
+  term = ap (λ (q : Judgement). q.term) knows.is ∙ term;
+  type = ap (λ (q : Judgement). q.type) knows.is ∙ type;
+}
+
+-- the star of a level is put over more entries
+pub levels_set : (known : Known) (levels : List Level) (place : ℕ) (l : Level) → AreLevels known levels → place < length levels → IsLevel known place l → AreLevels known (set levels place l)
+levels_set known levels place l h within last = record {
+  some = omega (arith, h.some, length-set levels place l);
+  each = λ i below. elim (same_or_other i place) as (λ _. IsLevel known i (level_at (set levels place l) i)) [
+    | inl same ↦
+        let P : Level → Type 0 = λ x. IsLevel known i x in
+        let Q : ℕ → Type 0 = λ n. IsLevel known n l in
+        let at : get_or (set levels place l) i no_level ≡ l = ap (λ n. get_or (set levels place l) n no_level) same ∙ get_or-set_same levels place l no_level within in
+        subst P (sym at) (subst Q (sym same) last)
+    | inr other ↦
+        let P : Level → Type 0 = λ x. IsLevel known i x in
+        subst P (sym (get_or-set_other levels place i l no_level other)) (h.each i (omega (arith, below, length-set levels place l)))
+  ];
+}
+  where
+    same_or_other : (i place : ℕ) → (i ≡ place) ⊎ (i ≢ place)
+    same_or_other i place = grind arith
+
+pub levels_push : (known : Known) (levels : List Level) (l : Level) → AreLevels known levels → IsLevel known (length levels) l → AreLevels known (levels ++ l ∷ [])
+levels_push known levels l h last = record {
+  some = omega (arith, length_push levels l);
+  each = λ i below. elim (cases_lt i (length levels)) as (λ _. IsLevel known i (level_at (levels ++ l ∷ []) i)) [
+    | inl within ↦
+        let P : Level → Type 0 = λ x. IsLevel known i x in
+        subst P (sym (get_or_append_left levels (l ∷ []) no_level i within)) (h.each i within)
+    | inr above ↦
+        let P : Level → Type 0 = λ x. IsLevel known i x in
+        let Q : ℕ → Type 0 = λ n. IsLevel known n l in
+        let at : length levels ≡ i = omega (arith, length_push levels l) in
+        subst P (sym (get_or_at levels l [] no_level i at)) (subst Q at last)
+  ];
+}
+
+pub levels_take : (known : Known) (levels : List Level) (n : ℕ) → AreLevels known levels → 0 < n → n ≤ length levels → AreLevels known (take n levels)
+levels_take known levels n h some within = record {
+  some = omega (arith, length-take n levels);
+  each = λ i below.
+    let P : Level → Type 0 = λ x. IsLevel known i x in
+    subst P (sym (get_or-take n levels i no_level (omega (arith, below, length-take n levels)))) (h.each i (omega (arith, below, length-take n levels)));
+}
+
+pub contexts_of-push : (levels : List Level) (l : Level) → contexts_of (levels ++ l ∷ []) ≡ contexts_of levels ++ l.ctx ∷ []
+contexts_of-push levels l = map-append (λ (x : Level). x.ctx) levels (l ∷ [])
+
+-- the number of the last context is that of the last level
+pub last_level : (levels : List Level) → 0 < length levels → last_of (contexts_of levels) ≡ (level_at levels (length levels - 1)).ctx
+last_level levels some =
+    ap (λ n. get_or (contexts_of levels) (n - 1) (record { 0 = 0 })) (length-map levels (λ (l : Level). l.ctx))
+    ∙ get_or-map (λ (l : Level). l.ctx) levels (length levels - 1) no_level
+
+-- the context of the last level
+pub context_is_last : (known : Known) (levels : List Level) → AreLevels known levels → IsLevel known (length levels - 1) (level_at levels (length levels - 1))
+context_is_last known levels h = h.each (length levels - 1) (omega (arith, h.some))

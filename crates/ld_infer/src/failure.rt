@@ -1,0 +1,134 @@
+//! What a rule refuses, and where.
+ghost use Rattle.std.specs.Prelude.{◌≡◌, ◌∷◌, [], ◌<◌, length, slice_get, Some, OnOk, OnErr};
+
+use fb_base::NoMemory;
+use ld_terms::TermId;
+use std::alloc::Global;
+use std::marker::Model;
+use thiserror::Error;
+
+/// A rule that can refuse.
+#[derive(Clone, Copy, Debug, PartialEq, Eq)]
+pub enum RuleName {
+    Weak,
+    Form,
+    Appl,
+    Abst,
+    Def,
+    DefPrim,
+    Inst,
+    InstPrim,
+}
+
+/// A step from an item inwards: to its stated type or its body, or to a part of a term.
+#[derive(Clone, Copy, Debug, PartialEq, Eq)]
+pub enum PathStep {
+    Of,
+    Body,
+    Dom,
+    Ran,
+    Fun,
+    Arg,
+    /// An argument, counted from 1.
+    Nth(u32),
+}
+
+/// The steps to a part, from the item inwards.
+#[derive(Debug, Drop)]
+pub struct Path {
+    // the last step first
+    steps: Vec<PathStep>,
+}
+
+impl Model for Path {
+    ghost use Rattle.std.specs.Prelude.{List, reverse};
+    ghost use Rattle.ld_infer.specs.declared.failure.PathStep.{PathStep};
+
+    ghost Value = { List PathStep };
+
+    ghost view = { λ p. reverse p.steps.items };
+}
+
+impl Path {
+    /// The path to the item itself.
+    pub fn new(alloc: Global) -> Path
+        ensures { result ≡ [] }
+    {
+        Path {
+            steps: Vec::new(alloc),
+        }
+    }
+
+    /// Puts a step in front.
+    pub fn within(&mut self, step: PathStep) -> Result<(), NoMemory>
+        ensures ok { OnOk result (self.new ≡ step ∷ self.old) }
+        ensures err { OnErr result (self.new ≡ self.old) }
+    {
+        self.steps.push(step).map_err(|_| NoMemory)?;
+        Ok(())
+    }
+
+    /// How many steps there are.
+    pub fn len(&self) -> usize
+        ensures { result ≡ length self.now }
+    {
+        self.steps.len()
+    }
+
+    /// The step at a place, counted from the item inwards.
+    pub fn step(&self, i: usize) -> PathStep
+        requires { i < length self.now }
+        ensures { slice_get self.now i ≡ Some result }
+    {
+        self.steps[self.steps.len() - 1 - i]
+    }
+}
+
+/// Why a premise fails. The terms stand in the context of the failure's depth.
+#[derive(Clone, Copy, Debug, PartialEq, Eq)]
+pub enum Why {
+    /// The part is `box`, which has no type.
+    NoType,
+    /// The type found is not the one wanted. `left` and `right` are the parts of the two that differ, below
+    /// so many further binders.
+    NotSame {
+        found: TermId,
+        wanted: TermId,
+        left: TermId,
+        right: TermId,
+        under: u32,
+    },
+}
+
+/// A premise that fails: the rule that asks for it, the premise's number in the rule table, the path to the
+/// part at which it fails, and how many variables the context has there.
+#[derive(Debug, Drop)]
+pub struct Failure {
+    pub rule: RuleName,
+    pub premise: u32,
+    pub path: Path,
+    pub depth: u32,
+    pub why: Why,
+}
+
+/// Why a term has no type that is found.
+#[derive(Debug, Drop, Error)]
+pub enum InferFault {
+    #[error("a rule refuses the term")]
+    Refused(Failure),
+    #[error("the form is not built")]
+    NotBuilt,
+    #[error("memory ran out")]
+    Memory,
+}
+
+impl From<NoMemory> for InferFault {
+    ghost use Rattle.std.specs.Prelude.{◌≡◌};
+    ghost use Rattle.ld_infer.specs.declared.failure.InferFault.TheVariants.{Memory};
+
+    ghost from_gives = { λ _ fault. fault ≡ Memory };
+
+    fn from(_: NoMemory) -> Self {
+        InferFault::Memory
+    }
+}

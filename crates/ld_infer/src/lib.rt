@@ -1,0 +1,10 @@
+//! A theory (an environment with its derivation), and type inference by the rules.
+#![tactic(auto)]
+
+mod failure;
+mod infer;
+mod theory;
+
+pub use failure::{Failure, InferFault, Path, PathStep, RuleName, Why};
+pub use infer::{Typed, infer, sort_of};
+pub use theory::Theory;
