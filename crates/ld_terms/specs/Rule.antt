@@ -53,4 +53,3 @@ rule_numbers (Def n) = n ∷ []
 rule_numbers (DefPrim n) = n ∷ []
 rule_numbers (Inst n ns) = n ∷ counted ns
 rule_numbers (InstPrim n ns) = n ∷ counted ns
-

@@ -5,5 +5,11 @@
 #![tactic(auto)]
 
 pub mod bank;
+mod instantiation;
+mod lifting;
+mod term_list;
+#[cfg(test)]
+mod tests;
 
 pub use bank::{Bank, Node, TermFault, TermId};
+pub use term_list::Terms;

@@ -1,0 +1,28 @@
+-- A list of terms is kept by adding one after the other at its end.
+use Rattle.std.proofs.Common.{◌≡◌, ◌≤◌, max, ℕ, List, [], ◌∷◌, ◌++◌, refl, ap, sym, ◌∙◌, subst, arith}
+use Rattle.ld_terms.specs.Tree.{Trees, Nil, ◌▸◌}
+use Rattle.ld_terms.specs.Item.{Item, One, Many, tree, list, IsOne, IsMany, IsSmall, height_of, index_of}
+use Rattle.ld_terms.specs.Bank.{item_at, tree_at, item_of, IsTermAt, IsListAt, HasParts, Extends, Holds, ListStandsFor, listed}
+use Rattle.ld_terms.specs.declared.bank.TermId.{TermId}
+use Rattle.ld_terms.specs.declared.bank.Node.TheVariants as node
+use Rattle.ld_terms.proofs.Banks.{both, term_at_later, extends_trans}
+
+pub listed-push : (items : List Item) (us : Trees) (ts : List TermId) (t : TermId) → listed items us (ts ++ t ∷ []) ≡ listed items us ts ▸ tree_at items t
+listed-push items us [] t = refl
+listed-push items us (s ∷ ts) t = listed-push items (us ▸ tree_at items s) ts t
+
+-- so far the number stands for the list of these terms
+pub record IsListed (first now : List Item) (r : TermId) (ts : List TermId) : Type 0 where
+  pub kept : Extends first now
+  pub list : ListStandsFor now r (listed first Nil ts)
+  pub small : IsSmall (item_at now r)
+
+pub listed_more : (first now new : List Item) (r s t : TermId) (ts : List TermId) → IsListed first now r ts → IsTermAt first t → Extends now new → Holds new s (item_of now (node.Cons t r)) → IsSmall (item_at new s) → IsListed first new s (ts ++ t ∷ [])
+listed_more first now new r s t ts h at kept holds small =
+    let tail : list (item_at now r) ≡ listed first Nil ts = ap list h.list.item in
+    let head : tree_at now t ≡ tree_at first t = ap tree (h.kept.kept t at.live) in
+    record {
+      kept = extends_trans first now new h.kept kept;
+      list = record { live = holds.live; item = holds.item ∙ ap Many (both ◌▸◌ tail head ∙ sym (listed-push first Nil ts t)) };
+      small = small;
+    }

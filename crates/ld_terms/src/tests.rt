@@ -1,0 +1,97 @@
+//! Small trees, with answers worked out by hand.
+use crate::{Bank, Node, TermFault, Terms};
+use std::test::Fail;
+
+// With `*` and `3` for its two variables `1 0` is `* 3`, and the free `2` is `0`.
+#[test]
+fn instantiates_in_order(rt: HostRuntime) -> Result<(), Fail> {
+    let mut bank = Bank::new(rt.alloc());
+    let outer = bank.add(Node::Var(1))?;
+    let inner = bank.add(Node::Var(0))?;
+    let body = bank.add(Node::App(outer, inner))?;
+    let free = bank.add(Node::Var(2))?;
+    let first = bank.add(Node::Star)?;
+    let second = bank.add(Node::Var(3))?;
+    let found = bank.instantiate(body, &[first, second])?;
+    let lowered = bank.instantiate(free, &[first, second])?;
+    let wanted = bank.add(Node::App(first, second))?;
+    assert!(rt; bank.same(found, wanted));
+    assert!(rt; bank.same(lowered, inner));
+    Ok(())
+}
+
+// Under a binder the argument is lifted: with `4` for `0` the term `fun 0, 1` is `fun 4, 5`.
+#[test]
+fn instantiates_under_a_binder(rt: HostRuntime) -> Result<(), Fail> {
+    let mut bank = Bank::new(rt.alloc());
+    let outer = bank.add(Node::Var(0))?;
+    let inner = bank.add(Node::Var(1))?;
+    let body = bank.add(Node::Lam(outer, inner))?;
+    let argument = bank.add(Node::Var(4))?;
+    let found = bank.instantiate(body, &[argument])?;
+    let lifted = bank.add(Node::Var(5))?;
+    let wanted = bank.add(Node::Lam(argument, lifted))?;
+    assert!(rt; bank.same(found, wanted));
+    Ok(())
+}
+
+// `all 0, 0 1` by two is `all 2, 0 3`.
+#[test]
+fn lifts_under_a_binder(rt: HostRuntime) -> Result<(), Fail> {
+    let mut bank = Bank::new(rt.alloc());
+    let bound = bank.add(Node::Var(0))?;
+    let free = bank.add(Node::Var(1))?;
+    let pair = bank.add(Node::App(bound, free))?;
+    let product = bank.add(Node::Pi(bound, pair))?;
+    let found = bank.lift(product, 2, 0)?;
+    let domain = bank.add(Node::Var(2))?;
+    let free = bank.add(Node::Var(3))?;
+    let pair = bank.add(Node::App(bound, free))?;
+    let wanted = bank.add(Node::Pi(domain, pair))?;
+    assert!(rt; bank.same(found, wanted));
+    Ok(())
+}
+
+#[test]
+fn keeps_the_limits(rt: HostRuntime) -> Result<(), Fail> {
+    let mut bank = Bank::new(rt.alloc());
+    let mut term = bank.add(Node::Star)?;
+    for _ in 1..500 {
+        term = bank.add(Node::App(term, term))?;
+    }
+    assert_eq!(rt; bank.height(term), 500);
+    assert!(rt; matches!(bank.add(Node::App(term, term)), Err(TermFault::High)));
+    assert!(rt; bank.add(Node::Var(65_535)).is_ok());
+    assert!(rt; matches!(bank.add(Node::Var(65_536)), Err(TermFault::High)));
+    Ok(())
+}
+
+#[test]
+fn compares_trees(rt: HostRuntime) -> Result<(), Fail> {
+    let mut bank = Bank::new(rt.alloc());
+    let star = bank.add(Node::Star)?;
+    let none = bank.add(Node::Nil)?;
+    let one = bank.add(Node::Cons(star, none))?;
+    let first = bank.add(Node::Const(1, one))?;
+    let again = bank.add(Node::Const(1, one))?;
+    let second = bank.add(Node::Const(2, one))?;
+    let without = bank.add(Node::Const(1, none))?;
+    assert!(rt; bank.same(first, again));
+    assert!(rt; !bank.same(first, second));
+    assert!(rt; !bank.same(first, without));
+    assert_eq!(rt; bank.len(), 7);
+    Ok(())
+}
+
+#[test]
+fn keeps_a_list(rt: HostRuntime) -> Result<(), Fail> {
+    let mut bank = Bank::new(rt.alloc());
+    let star = bank.add(Node::Star)?;
+    let over = bank.add(Node::Box_)?;
+    let mut terms = Vec::new(rt.alloc());
+    terms.push(star)?;
+    terms.push(over)?;
+    let list = Terms::from_vec(terms);
+    assert_eq!(rt; list.as_slice(), [star, over].as_slice());
+    Ok(())
+}
