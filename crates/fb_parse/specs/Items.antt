@@ -62,15 +62,15 @@ module _ (limit : ℕ) where
 
   -- what stands behind `by`
   pub data IsWay : List Lexeme → SurfaceBody → List Lexeme → Type 0 where
-    intro : {s e s1 e1 : ℕ} {x : List ℕ} {rest : List Lexeme} →
-        IsWay (name (codes "intro") s e ∷ name x s1 e1 ∷ rest) (Intro (span s1 e1) x) rest
-    elimination : {s e s1 e1 s2 e2 s3 e3 : ℕ} {ts us rest : List Lexeme} {f : Surface} {xs : Surfaces} →
+    intro : {s e s1 e1 : ℕ} {word x : List ℕ} {rest : List Lexeme} → word ≡ codes "intro" →
+        IsWay (name word s e ∷ name x s1 e1 ∷ rest) (Intro (span s1 e1) x) rest
+    elimination : {s e s1 e1 s2 e2 s3 e3 : ℕ} {word : List ℕ} {ts us rest : List Lexeme} {f : Surface} {xs : Surfaces} → word ≡ codes "elim" →
         Term limit 1 ts f s1 e1 (sign k.Comma s2 e2 ∷ us) → Terms limit 1 us xs s3 e3 rest →
-        IsWay (name (codes "elim") s e ∷ ts) (Elim (more f xs)) rest
-    same : {s e s1 e1 : ℕ} {ts rest : List Lexeme} {a : Surface} →
-        Term limit 1 ts a s1 e1 rest → IsWay (name (codes "same") s e ∷ ts) (Same a) rest
-    fill : {s e s1 e1 : ℕ} {c : List ℕ} {ts rest : List Lexeme} {xs : List SurfaceArg} →
-        IsFilling ts xs rest → IsWay (name (codes "use") s e ∷ name c s1 e1 ∷ ts) (Fill (span s1 e1) c xs) rest
+        IsWay (name word s e ∷ ts) (Elim (more f xs)) rest
+    same : {s e s1 e1 : ℕ} {word : List ℕ} {ts rest : List Lexeme} {a : Surface} → word ≡ codes "same" →
+        Term limit 1 ts a s1 e1 rest → IsWay (name word s e ∷ ts) (Same a) rest
+    fill : {s e s1 e1 : ℕ} {word c : List ℕ} {ts rest : List Lexeme} {xs : List SurfaceArg} → word ≡ codes "use" →
+        IsFilling ts xs rest → IsWay (name word s e ∷ name c s1 e1 ∷ ts) (Fill (span s1 e1) c xs) rest
 
   pub data IsBody : List Lexeme → SurfaceBody → List Lexeme → Type 0 where
     plain : {s e : ℕ} {ts rest : List Lexeme} {a : Surface} → Term limit 1 ts a s e rest → IsBody ts (Plain a) rest
