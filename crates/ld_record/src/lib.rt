@@ -2,6 +2,7 @@
 #![tactic(auto)]
 
 mod deriv;
+pub mod laws;
 mod record;
 
 pub use deriv::Deriv;
