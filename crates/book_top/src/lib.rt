@@ -1,0 +1,9 @@
+//! The top call: from the words of the command line to the derivation file and the report.
+#![tactic(auto)]
+
+mod names;
+mod report;
+mod status;
+mod words;
+
+pub use status::{LimitFault, RuleFault, Side, Status, Summary, TextFault, TextWhat, WhyName};

@@ -1,0 +1,106 @@
+//! What a run answers.
+
+use fb_base::Span;
+use ld_infer::{Path, RuleName};
+
+/// The text in which a fault lies.
+#[derive(Clone, Copy, Debug, PartialEq, Eq)]
+pub enum Side {
+    Book,
+}
+
+/// What a run that did its work counted: the items and entries of the book, and the sum of its items' costs in
+/// steps of reduction.
+#[derive(Clone, Copy, Debug, PartialEq, Eq)]
+pub struct Summary {
+    pub items: u64,
+    pub entries: u64,
+    pub steps: u64,
+}
+
+/// Why a text has no reading.
+#[derive(Clone, Copy, Debug, PartialEq, Eq)]
+pub enum TextWhat {
+    BadByte,
+    LongName,
+    Syntax,
+    /// No entry has the name.
+    Unknown,
+    /// An entry has the name already.
+    NameTaken,
+    /// A form that this version does not check yet.
+    NotBuilt,
+}
+
+/// A fault of a text, and where it is. The span of a fault of tokens or of the grammar is empty.
+#[derive(Clone, Copy, Debug, PartialEq, Eq)]
+pub struct TextFault {
+    pub side: Side,
+    pub at: Span,
+    pub what: TextWhat,
+}
+
+/// Why a premise fails.
+#[derive(Clone, Copy, Debug, PartialEq, Eq)]
+pub enum WhyName {
+    NoType,
+    NotSame,
+}
+
+/// The first item that a rule refuses: its number, counted from 1, its span, and the premise that fails, with the
+/// path from the item to the part at which it fails.
+#[derive(Debug, Drop)]
+pub struct RuleFault {
+    pub side: Side,
+    pub item: u64,
+    pub at: Span,
+    pub rule: RuleName,
+    pub premise: u32,
+    pub path: Path,
+    pub why: WhyName,
+}
+
+/// A limit that a text passed. Offsets are in bytes.
+#[derive(Clone, Copy, Debug, PartialEq, Eq)]
+pub enum LimitFault {
+    /// The book has more than 4,194,304 bytes.
+    BookBytes,
+    /// A term nested deeper than 500 begins at the offset.
+    Nesting(usize),
+    /// Item 100,001 begins at the offset.
+    Items(usize),
+    /// A term of the item that begins at the offset is higher than 500.
+    Height(usize),
+}
+
+/// The answer of a run.
+#[derive(Debug, Drop)]
+pub enum Status {
+    Done(Summary),
+    Text(TextFault),
+    Usage,
+    Rule(RuleFault),
+    Desk,
+    Limit(LimitFault),
+    Memory,
+}
+
+impl Status {
+    ghost use Rattle.book_top.specs.Report.{code_of};
+    ghost use Rattle.std.specs.Prelude.{◌≡◌};
+
+    /// The status with which the program ends.
+    pub fn code(&self) -> u8
+        ensures { result ≡ code_of self.now }
+    {
+        match self {
+            Status::Done(_) => 0,
+            Status::Text(_) => 1,
+            Status::Usage => 2,
+            Status::Rule(_) => 3,
+            Status::Desk => 5,
+            Status::Limit(_) => 6,
+            Status::Memory => 7,
+        }
+    }
+}
