@@ -1,5 +1,7 @@
 -- A list of terms is kept by adding one after the other at its end.
 use Rattle.std.proofs.Common.{◌≡◌, ◌≤◌, max, ℕ, List, [], ◌∷◌, ◌++◌, refl, ap, sym, ◌∙◌, subst, arith}
+use Rattle.std.proofs.Common.{All}
+use Rattle.std.proofs.lemmas.List.Elements.{All-head, All-tail}
 use Rattle.ld_terms.specs.Tree.{Trees, Nil, ◌▸◌}
 use Rattle.ld_terms.specs.Item.{Item, One, Many, tree, list, IsOne, IsMany, IsSmall, height_of, index_of}
 use Rattle.ld_terms.specs.Bank.{item_at, tree_at, item_of, IsTermAt, IsListAt, HasParts, Extends, Holds, ListStandsFor, listed}
@@ -26,3 +28,10 @@ listed_more first now new r s t ts h at kept holds small =
       list = record { live = holds.live; item = holds.item ∙ ap Many (both ◌▸◌ tail head ∙ sym (listed-push first Nil ts t)) };
       small = small;
     }
+
+-- a list stays as terms are added
+pub listed-later : (old new : List Item) (us : Trees) (ts : List TermId) → Extends old new → All (IsTermAt old) ts → listed new us ts ≡ listed old us ts
+listed-later old new us [] e live = refl
+listed-later old new us (t ∷ ts) e live =
+    ap (λ u. listed new (us ▸ u) ts) (ap tree (e.kept t (All-head (IsTermAt old) t ts live).live))
+    ∙ listed-later old new (us ▸ tree_at old t) ts e (All-tail (IsTermAt old) t ts live)

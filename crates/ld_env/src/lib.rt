@@ -1,0 +1,6 @@
+//! The environment: entries under names that differ, found by name or by number.
+#![tactic(auto)]
+
+mod env;
+
+pub use env::{Entry, Env, EnvFault};
