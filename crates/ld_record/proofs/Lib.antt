@@ -2,3 +2,4 @@ pub mod Lists
 pub mod Keeping
 pub mod Growing
 pub mod Lifting
+pub mod Rules
