@@ -1,0 +1,5 @@
+pub mod Numbers
+pub mod Records
+pub mod Numbering
+pub mod Named
+pub mod Carrying
