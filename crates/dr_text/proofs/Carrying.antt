@@ -25,6 +25,7 @@ use Rattle.dr_text.specs.Spelling.{header, record_bytes, records_bytes, spelling
 use Rattle.dr_text.specs.Derives.{Derives}
 use Rattle.dr_text.specs.Written.{IsWritten, Matches, Writes, Pushes, Numbers, Reached, WritesKept, HasTerms, HasNamedTerms, Carries, Appends, GoesOn, last_judgement, entry_record}
 use Rattle.dr_text.proofs.Records.{final-append, stand-append, records_bytes-append, writes_none, writes_then, writes_more}
+use Rattle.ld_record.proofs.Keeping.{known_after-push}
 use Rattle.ld_record.proofs.Rules.{follows_by, premises_there}
 use Rattle.dr_text.proofs.Named.{none_named, names_at}
 
@@ -118,14 +119,10 @@ has_terms items known (Context c t) h = h.term
 has_terms items known (Node judge rule) h = (h.numbers.term, h.numbers.of)
 has_terms items known (Entry name j prim) h = tt
 
-known_push : (items : List Item) (known : Known) (ks : List Kept) (k : Kept) → known_after items known (ks ++ k ∷ []) ≡ with_kept items (known_after items known ks) k
-known_push items known [] k = refl
-known_push items known (m ∷ ks) k = known_push items (with_kept items known m) ks k
-
 known_more : (items : List Item) (ks : List Kept) (i : ℕ) (k : Kept) → i < length ks → slice_get ks i ≡ Some k
     → known_of items (take (i + 1) ks) ≡ with_kept items (known_of items (take i ks)) k
 known_more items ks i k below is =
-    ap (known_of items) (take_more ks i k below ∙ ap (λ n. take i ks ++ n ∷ []) (get_or_from_slice_get ks i k k is)) ∙ known_push items nothing (take i ks) k
+    ap (known_of items) (take_more ks i k below ∙ ap (λ n. take i ks ++ n ∷ []) (get_or_from_slice_get ks i k k is)) ∙ known_after-push items nothing (take i ks) k
 
 pub carries_none : (items : List Item) (ks : List Kept) (terms : Terms) (out : List ℕ) (i : ℕ) → Carries items ks terms terms out out i i
 carries_none items ks terms out i s matches known = record { writes = writes_none s out; knows = known; matches = matches }

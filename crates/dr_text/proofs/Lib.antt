@@ -3,3 +3,4 @@ pub mod Records
 pub mod Numbering
 pub mod Named
 pub mod Carrying
+pub mod CallerLemmas
