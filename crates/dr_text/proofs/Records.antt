@@ -1,10 +1,10 @@
 -- Records that stand one after another, and their bytes.
-use Rattle.std.proofs.Common.{◌≡◌, ◌<◌, ◌^◌, ℕ, List, [], ◌∷◌, ◌++◌, refl, ap, sym, ◌∙◌, subst, append_assoc}
+use Rattle.std.proofs.Common.{◌≡◌, ◌<◌, ◌^◌, ℕ, suc, Bool, true, false, List, [], ◌∷◌, ◌++◌, length, get_or, Fits, w8, refl, ap, sym, ◌∙◌, subst, arith, append_assoc}
 use Rattle.std.specs.List.{AllByRecursion}
 use Rattle.std.proofs.lemmas.List.{append-nil}
 use Rattle.ld_terms.specs.Record.{Record, HasSpelling, State, IsNoEnd, Stands, Stand, after, final, name_of, numbers_before, numbers_behind}
 use Rattle.dr_text.specs.Spelling.{tag, numbers_bytes, record_bytes, records_bytes}
-use Rattle.dr_text.specs.Written.{Pushes, Writes}
+use Rattle.dr_text.specs.Written.{Pushes, Writes, entry_record}
 
 pub final-append : (s : State) (rs qs : List Record) → final s (rs ++ qs) ≡ final (final s rs) qs
 final-append s [] qs = refl
@@ -60,3 +60,30 @@ pushes_plain before later r nameless last is range =
         name_bytes = subst B (sym nameless) tt;
       };
     }
+
+entry_bytes : (before b c later name : List ℕ) (n t u : ℕ) → t ≡ u
+    → b ≡ before ++ t ∷ numbers_bytes (length name ∷ []) → c ≡ b ++ name → later ≡ c ++ numbers_bytes (n ∷ [])
+    → later ≡ before ++ u ∷ (numbers_bytes (length name ∷ []) ++ (name ++ numbers_bytes (n ∷ [])))
+entry_bytes before b c later name n t u tagged one two three =
+    let front = numbers_bytes (length name ∷ []) in
+    let back = numbers_bytes (n ∷ []) in
+    three ∙ ap (λ bytes. bytes ++ back) (two ∙ ap (λ bytes. bytes ++ name) (one ∙ ap (λ x. before ++ x ∷ front) tagged))
+    ∙ ap (λ bytes. bytes ++ back) (append_assoc before (u ∷ front) name) ∙ append_assoc before ((u ∷ front) ++ name) back
+    ∙ ap (λ bytes. before ++ u ∷ bytes) (append_assoc front name back)
+
+-- an entry is its tag, the length of its name, the name and the number of its judgement
+pub pushes_entry : (before b c later : List ℕ) (prim : Bool) (name : List ℕ) (n t : ℕ) → t ≡ tag (entry_record prim name n)
+    → b ≡ before ++ t ∷ numbers_bytes (length name ∷ []) → c ≡ b ++ name → later ≡ c ++ numbers_bytes (n ∷ [])
+    → length name < 2 ^ 64 → n < 2 ^ 64 → AllByRecursion (λ b. b < 256) name → Pushes before later (entry_record prim name n)
+pushes_entry before b c later true name n t tagged one two three short low range = record {
+  bytes = entry_bytes before b c later name n t 0x41 tagged one two three;
+  spelling = record { small_numbers = (short, (low, tt)); name_bytes = range };
+}
+pushes_entry before b c later false name n t tagged one two three short low range = record {
+  bytes = entry_bytes before b c later name n t 0x40 tagged one two three;
+  spelling = record { small_numbers = (short, (low, tt)); name_bytes = range };
+}
+
+pub each_byte_fits : (bs : List ℕ) → ((i : ℕ) → Fits w8 (get_or bs i 0)) → AllByRecursion (λ b. b < 256) bs
+each_byte_fits [] h = tt
+each_byte_fits (b ∷ bs) h = (omega (arith, h 0), each_byte_fits bs (λ i. h (suc i)))

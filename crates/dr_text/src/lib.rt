@@ -4,6 +4,8 @@
 mod number;
 mod record;
 mod terms;
+#[cfg(test)]
+mod tests;
 mod writer;
 
 pub use record::header;

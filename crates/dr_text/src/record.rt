@@ -1,10 +1,10 @@
 //! The bytes of records.
-ghost use Rattle.std.specs.Prelude.{◌≡◌, ◌++◌, ◌∷◌, ◌<◌, ◌≤◌, ◌^◌, List, length, OnOk};
+ghost use Rattle.std.specs.Prelude.{◌≡◌, ◌++◌, ◌∷◌, ◌<◌, ◌^◌, List, ℕ, OnOk};
 ghost use Rattle.std.specs.List.{AllByRecursion};
 ghost use Rattle.ld_terms.specs.Record.{Record};
 ghost use Rattle.ld_terms.specs.Rule.{rule_numbers};
 ghost use Rattle.ld_record.specs.Follows.{rule_of};
-ghost use Rattle.dr_text.specs.Spelling.{node_tag, numbers_bytes, header};
+ghost use Rattle.dr_text.specs.Spelling.{tag, node_tag, numbers_bytes, header};
 ghost use Rattle.dr_text.specs.Written.{Pushes, entry_record};
 
 use crate::number::push_numbers;
@@ -72,12 +72,24 @@ fn push_premises(step: &Step, out: &mut Vec<u8>) -> Result<(), NoMemory>
 
 /// Appends an entry.
 pub fn push_entry(name: &Text, j: &JudgeId, prim: bool, out: &mut Vec<u8>) -> Result<(), NoMemory>
-    requires { length name.now ≤ 255 }
     ensures { OnOk result (Pushes out.old.items out.new.items (entry_record prim name.now j.now.0)) }
 {
     let bytes = name.bytes();
-    let tag = if prim { 0x41 } else { 0x40 };
-    push_record(tag, &[bytes.len()], out)?;
-    out.extend_from_slice(bytes).map_err(|_| NoMemory)?;
+    push_record(entry_tag(prim), &[bytes.len()], out)?;
+    push_bytes(bytes, out)?;
     push_numbers(&[j.number()], out)
+}
+
+fn push_bytes(bytes: &[u8], out: &mut Vec<u8>) -> Result<(), NoMemory>
+    ensures bytes { OnOk result (out.new.items ≡ out.old.items ++ bytes.now) }
+    ensures range { AllByRecursion (λ b. b < 256) bytes.now }
+{
+    out.extend_from_slice(bytes).map_err(|_| NoMemory)?;
+    Ok(())
+}
+
+fn entry_tag(prim: bool) -> u8
+    ensures { (name : List ℕ) (n : ℕ) → result ≡ tag (entry_record prim name n) }
+{
+    if prim { 0x41 } else { 0x40 }
 }

@@ -10,7 +10,9 @@ use Rattle.ld_terms.specs.Entry as named
 use Rattle.ld_terms.specs.declared.bank.TermId.{TermId}
 use Rattle.ld_terms.specs.Known.{Known, Judgement, nothing, context_at, judgement_at, no_judgement, primitive_entry, with_entry}
 use Rattle.ld_env.specs.Named.{Named}
-use Rattle.ld_env.specs.Entries.{env_of, AreLive}
+use Rattle.ld_env.specs.Entries.{env_of, entry_of, IsLiveEntry, AreLive}
+use Rattle.ld_env.specs.Named.{named as with_name}
+use Rattle.ld_env.proofs.CallerLemmas.{env_of-later, live-later, env_of-append, live-push}
 use Rattle.ld_record.specs.declared.record.JudgeId.{JudgeId}
 use Rattle.ld_record.specs.declared.record.CtxId.{CtxId}
 use Rattle.ld_record.specs.declared.record.Kept.{Kept}
@@ -50,8 +52,8 @@ theory_later old new kept entries star box levels e h =
     let Room : Known → Type 0 = λ k. length k.env < 2 ^ 32 in
     record {
       sound = sound_later old new kept e h.sound;
-      env = env_later old new entries e h.live ∙ h.env ∙ ap (λ (k : Known). k.env) same;
-      live = live_later old new entries e h.live;
+      env = env_of-later old new entries e h.live ∙ h.env ∙ ap (λ (k : Known). k.env) same;
+      live = live-later old new entries e h.live;
       star = record { live = omega (arith, e.longer, h.star.live); item = e.kept star h.star.live ∙ h.star.item };
       box = record { live = omega (arith, e.longer, h.box.live); item = e.kept box h.box.live ∙ h.box.item };
       levels_are = subst Levels same h.levels_are;
@@ -158,3 +160,45 @@ last_level levels some =
 -- the context of the last level
 pub context_is_last : (known : Known) (levels : List Level) → AreLevels known levels → IsLevel known (length levels - 1) (level_at levels (length levels - 1))
 context_is_last known levels h = h.each (length levels - 1) (omega (arith, h.some))
+
+plain_more : (env : named.Env) (e : named.Entry) → HaveNoParameters env → e.params ≡ Nil → HaveNoParameters (env ++ e ∷ [])
+plain_more env e h last k l =
+    elim (cases_lt k (length env)) as (λ _. (entry_at (env ++ e ∷ []) k).params ≡ Nil) [
+      | inl below ↦ ap (λ (x : named.Entry). x.params) (get_or_append_left env (e ∷ []) (primitive_entry [] no_judgement) k below) ∙ h k below
+      | inr above ↦
+          let at : length env ≡ k = omega (arith, length_push env e) in
+          ap (λ (x : named.Entry). x.params) (get_or_at env e [] (primitive_entry [] no_judgement) k at) ∙ last
+    ]
+
+level_entered : (old : Known) (e : named.Entry) (n : ℕ) (l : Level) → IsLevel old n l → IsLevel (with_entry old e) n l
+level_entered old e n l h = record {
+  context = h.context;
+  variables_are = h.variables_are;
+  star = h.star;
+  entries = omega (arith, h.entries, length_push old.env e);
+  same = h.same;
+  term = h.term;
+  type = h.type;
+}
+
+-- an entry is added
+pub theory_entry : (items : List Item) (old new : List Kept) (entries more : List Named) (star box : TermId) (levels : List Level) (n : Named) (e : named.Entry)
+    → IsTheory items old entries star box levels → IsSound items new → known_of items new ≡ with_entry (known_of items old) e
+    → entry_of items n ≡ e → IsLiveEntry items n.entry → more ≡ entries ++ n ∷ [] → e.params ≡ Nil → length (known_of items old).env + 1 < 2 ^ 32
+    → IsTheory items new more star box levels
+theory_entry items old new entries more star box levels n e h sound is same live push plain room =
+    let before = known_of items old in
+    let env : (known_of items new).env ≡ before.env ++ e ∷ [] = ap (λ (k : Known). k.env) is in
+    let Levels : Known → Type 0 = λ k. AreLevels k levels in
+    let Plain : named.Env → Type 0 = HaveNoParameters in
+    let Live : List Named → Type 0 = λ es. AreLive items es in
+    record {
+      sound = sound;
+      env = ap (env_of items) push ∙ env_of-append items entries (n ∷ []) ∙ ap (λ es. es ++ entry_of items n ∷ []) h.env ∙ ap (λ x. before.env ++ x ∷ []) same ∙ sym env;
+      live = subst Live (sym push) (live-push items entries n h.live live);
+      star = h.star;
+      box = h.box;
+      levels_are = subst Levels (sym is) (record { some = h.levels_are.some; each = λ i l. level_entered before e i (level_at levels i) (h.levels_are.each i l) });
+      plain = subst Plain (sym env) (plain_more before.env e h.plain plain);
+      room = omega (arith, ap length env, length_push before.env e);
+    }

@@ -1,4 +1,3 @@
 pub mod Reading
 pub mod Standing
 pub mod Theory
-pub mod Infers

@@ -2,9 +2,7 @@
 #![tactic(auto)]
 
 mod failure;
-mod infer;
 mod theory;
 
 pub use failure::{Failure, InferFault, Path, PathStep, RuleName, Why};
-pub use infer::{Typed, infer, sort_of};
 pub use theory::Theory;
