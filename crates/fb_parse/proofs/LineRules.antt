@@ -1,5 +1,5 @@
 -- Lines of a book, one token or one item at a time.
-use Rattle.std.proofs.Common.{◌≡◌, ℕ, suc, ◌+◌, ◌-◌, ◌<◌, ◌≤◌, Bool, true, false, List, [], ◌∷◌, ◌++◌, length, Option, Some, None, Result, Err, refl, ap, ◌∙◌, sym, subst, arith, append_assoc}
+use Rattle.std.proofs.Common.{◌≡◌, ℕ, suc, ◌+◌, ◌-◌, ◌<◌, ◌≤◌, Bool, true, false, if◌then◌else◌, List, [], ◌∷◌, ◌++◌, length, Option, Some, None, Result, Err, refl, ap, ◌∙◌, sym, subst, arith, append_assoc}
 use Rattle.std.proofs.lemmas.Bool.{false≢true}
 use Rattle.std.proofs.lemmas.List.{append-nil}
 use Rattle.fb_lex.specs.declared.tokens.Kind.{Kind}
@@ -7,7 +7,7 @@ use Rattle.fb_lex.specs.declared.tokens.Kind.TheVariants as k
 use Rattle.fb_lex.specs.declared.tokens.Token.{Token}
 use Rattle.fb_lex.specs.declared.tokens.LexFault.{LexFault}
 use Rattle.fb_lex.specs.Tokens.{IsNext, IsFault, is_end, is_name}
-use Rattle.fb_lex.specs.TokenList.{Lexeme, sign, name, seen, lexeme, Reads, TokensBehind, Tokens, Whole, Faulty}
+use Rattle.fb_lex.specs.TokenList.{Lexeme, sign, name, seen, lexeme, left, Reads, TokensBehind, Tokens, Whole, Faulty}
 use Rattle.fb_parse.specs.declared.fault.ParseFault.{ParseFault}
 use Rattle.fb_parse.specs.declared.fault.ParseFault.TheVariants.{Lex, Syntax, Deep, ManyItems, Memory}
 use Rattle.fb_parse.specs.Grammar.{span}
@@ -54,22 +54,22 @@ pass_are {text} {t} {u} {b} {c} {is} into e n h = record {
   parses = λ l. into l _ is (h.parses l);
 }
 
-pass_begins : {text : List ℕ} {t : Token} {b c m l : ℕ} {front : List Lexeme} → Passes text t b c → BeginsLines c m l front → BeginsLines b m l (seen text t ∷ front)
-pass_begins {l = l} into h = record { more = h.more; items = h.items; parses = into l _ h.items h.parses; few = h.few }
+pass_begins : (text : List ℕ) (t : Token) {b c m l : ℕ} {front : List Lexeme} → Passes text t b c → BeginsLines c m l front → BeginsLines b m l (seen text t ∷ front)
+pass_begins text t {l = l} into h = record { more = h.more; items = h.items; parses = into l _ h.items h.parses; few = h.few }
 
-pass_none : {text : List ℕ} {t : Token} {b c m l : ℕ} {front : List Lexeme} → PassesBack text t b c → NoLines c m l front → NoLines b m l (seen text t ∷ front)
-pass_none {l = l} back h = λ more is p few. h more is (back l _ is p) few
+pass_none : (text : List ℕ) (t : Token) {b c m l : ℕ} (front : List Lexeme) → PassesBack text t b c → NoLines c m l front → NoLines b m l (seen text t ∷ front)
+pass_none text t {l = l} front back h = λ more is p few. h more is (back l _ is p) few
 
 pub pass_fail : {text : List ℕ} {t u : Token} {b c m : ℕ} {f : ParseFault} → Passes text t b c → PassesBack text t b c → is_end t.kind ≡ false → IsNext text (Some t) u → LinesFail text c m u f → LinesFail text b m t f
 pass_fail into back e n LinesFail.memory = LinesFail.memory
-pass_fail into back e n (LinesFail.lex r i j s) = LinesFail.lex (Reads.next e n r) i j (λ l. pass_begins into (s l))
-pass_fail into back e n (LinesFail.syntax r s o) = LinesFail.syntax (Reads.next e n r) (λ l. pass_begins into (s l)) (λ any l. pass_none back (o any l))
-pass_fail into back e n (LinesFail.deep r s o) = LinesFail.deep (Reads.next e n r) (pass_begins into s) (λ any. pass_none back (o any))
-pass_fail into back e n (LinesFail.many_items r s o) = LinesFail.many_items (Reads.next e n r) (λ l. pass_begins into (s l)) (λ l. pass_none back (o l))
+pass_fail {text} {t} into back e n (LinesFail.lex r i j s) = LinesFail.lex (Reads.next e n r) i j (λ l. pass_begins text t into (s l))
+pass_fail {text} {t} into back e n (LinesFail.syntax r s o) = LinesFail.syntax (Reads.next e n r) (λ l. pass_begins text t into (s l)) (λ any l. pass_none text t _ back (o any l))
+pass_fail {text} {t} into back e n (LinesFail.deep r s o) = LinesFail.deep (Reads.next e n r) (pass_begins text t into s) (λ any. pass_none text t _ back (o any))
+pass_fail {text} {t} into back e n (LinesFail.many_items r s o) = LinesFail.many_items (Reads.next e n r) (λ l. pass_begins text t into (s l)) (λ l. pass_none text t _ back (o l))
 
 -- no token comes behind one that is passed over
 pub pass_fault : {text : List ℕ} {t : Token} {b c m : ℕ} (f : ParseFault) → Passes text t b c → is_end t.kind ≡ false → NextOrFault text t (Err f) → LinesFail text b m t f
-pass_fault {c = c} {m = m} (Lex f) into e i = LinesFail.lex Reads.here e i (λ l. pass_begins into (begins_nothing c m l))
+pass_fault {text} {t} {c = c} {m = m} (Lex f) into e i = LinesFail.lex Reads.here e i (λ l. pass_begins text t into (begins_nothing c m l))
 pass_fault _ into e i = absurd i
 
 -- bars
@@ -144,8 +144,8 @@ item_first (IsLines.item {kind = kind} {i = i} {is = is} a q p) h = record {
 item_lines : {l b s e : ℕ} {kind : Kind} {ts us : List Lexeme} {i : SurfaceItem} {is : List SurfaceItem} (x : Lexeme) → x ≡ sign kind s e → ends_line kind ≡ true → IsItem l b ts i (x ∷ us) → IsLines l b (x ∷ us) is [] → IsLines l b ts (i ∷ is) []
 item_lines {l} {b} {s} {e} {kind} {ts} {us} {i} {is} x h q a p = IsLines.item (subst (λ v. IsItem l b ts i (v ∷ us)) h a) q (subst (λ v. IsLines l b (v ∷ us) is []) h p)
 
-seen_item_lines : {text : List ℕ} {l b : ℕ} {ts us : List Lexeme} {i : SurfaceItem} {is : List SurfaceItem} (u : Token) → ends_line u.kind ≡ true → IsItem l b ts i (seen text u ∷ us) → IsLines l b (seen text u ∷ us) is [] → IsLines l b ts (i ∷ is) []
-seen_item_lines {text} u q a p = item_lines (seen text u) (seen_sign text u u.kind (ends_no_name u.kind q) refl) q a p
+seen_item_lines : (text : List ℕ) {l b : ℕ} {ts us : List Lexeme} {i : SurfaceItem} {is : List SurfaceItem} (u : Token) → ends_line u.kind ≡ true → IsItem l b ts i (seen text u ∷ us) → IsLines l b (seen text u ∷ us) is [] → IsLines l b ts (i ∷ is) []
+seen_item_lines text u q a p = item_lines (seen text u) (seen_sign text u u.kind (ends_no_name u.kind q) refl) q a p
 
 pub item_are : {text : List ℕ} {b : ℕ} {t u : Token} {i : SurfaceItem} {is : List SurfaceItem} → ends_line u.kind ≡ true → Read text (ItemIs b i) (SomeItem b) behind_term t u → LinesAre text b u is → LinesAre text b t (i ∷ is)
 item_are {text} {b} {t} {u} {i} {is} q r h = record {
@@ -156,7 +156,7 @@ item_are {text} {b} {t} {u} {i} {is} q r h = record {
   parses = λ l.
       let k = starts h.reads [] in
       subst (λ v. IsLines l b v (i ∷ is) []) (sym (append_assoc r.tokens h.tokens (seen text h.last ∷ []) ∙ ap (λ v. r.tokens ++ v) k.is))
-      (seen_item_lines u q (r.this l (seen text u ∷ k.tail)) (subst (λ v. IsLines l b v is []) k.is (h.parses l)));
+      (seen_item_lines text u q (r.this l (seen text u ∷ k.tail)) (subst (λ v. IsLines l b v is []) k.is (h.parses l)));
 }
 
 -- an item is completed by the end
@@ -193,13 +193,13 @@ begins_behind : {text : List ℕ} {b m l : ℕ} {t u : Token} {i : SurfaceItem} 
 begins_behind {text} {b} {m} {l} {t} {u} {i} {tail} q r h = record {
   more = h.more;
   items = i ∷ h.items;
-  parses = subst (λ v. IsLines l b v (i ∷ h.items) []) (sym (append_assoc r.tokens (seen text u ∷ tail) h.more)) (seen_item_lines u q (r.this l (seen text u ∷ (tail ++ h.more))) h.parses);
+  parses = subst (λ v. IsLines l b v (i ∷ h.items) []) (sym (append_assoc r.tokens (seen text u ∷ tail) h.more)) (seen_item_lines text u q (r.this l (seen text u ∷ (tail ++ h.more))) h.parses);
   few = omega (arith, h.few);
 }
 
-none_behind : {text : List ℕ} {b m l : ℕ} {t u : Token} {i : SurfaceItem} {tail : List Lexeme} → begins_item t.kind ≡ true → (r : Read text (ItemIs b i) (SomeItem b) behind_term t u) → NoLines b m l (seen text u ∷ tail) →
+none_behind : {text : List ℕ} {b m l : ℕ} {t u : Token} {i : SurfaceItem} (tail : List Lexeme) → begins_item t.kind ≡ true → (r : Read text (ItemIs b i) (SomeItem b) behind_term t u) → NoLines b m l (seen text u ∷ tail) →
     NoLines b (m + 1) l (r.tokens ++ (seen text u ∷ tail))
-none_behind {text} {b} {m} {l} {t} {u} {i} {tail} begins r n = λ more is p few.
+none_behind {text} {b} {m} {l} {t} {u} {i} tail begins r n = λ more is p few.
     let h = starts r.reads (tail ++ more) in
     let e = append_assoc r.tokens (seen text u ∷ tail) more ∙ h.is in
     let d = item_first (subst (λ v. IsLines l b v is []) e p) (seen_item text t h.tail begins) in
@@ -231,17 +231,17 @@ none_with : {text : List ℕ} {b m l : ℕ} {t u w : Token} {i : SurfaceItem} {t
     NoLines b (m + 1) l ((r.tokens ++ ts) ++ (seen text w ∷ []))
 none_with {text} {b} {m} {l} {t} {u} {w} {i} {ts} begins r s h =
     let k = starts s [] in
-    subst (λ v. NoLines b (m + 1) l v) (sym (append_assoc r.tokens ts (seen text w ∷ []) ∙ ap (λ v. r.tokens ++ v) k.is)) (none_behind begins r (subst (λ v. NoLines b m l v) k.is h))
+    subst (λ v. NoLines b (m + 1) l v) (sym (append_assoc r.tokens ts (seen text w ∷ []) ∙ ap (λ v. r.tokens ++ v) k.is)) (none_behind k.tail begins r (subst (λ v. NoLines b m l v) k.is h))
 
 -- fewer items may be allowed, and no more
-none_any : {b l : ℕ} {front : List Lexeme} → ((any : ℕ) → NoLines b (any + 1) l front) → (any : ℕ) → NoLines b any l front
-none_any h any = λ more is p few. h any more is p (omega (arith, few))
+none_any : {b l : ℕ} (front : List Lexeme) → ((any : ℕ) → NoLines b (any + 1) l front) → (any : ℕ) → NoLines b any l front
+none_any front h any = λ more is p few. h any more is p (omega (arith, few))
 
 pub item_fail : {text : List ℕ} {b m : ℕ} {t u : Token} {i : SurfaceItem} {f : ParseFault} → begins_item t.kind ≡ true → ends_line u.kind ≡ true → Read text (ItemIs b i) (SomeItem b) behind_term t u → LinesFail text b m u f → LinesFail text b (m + 1) t f
 item_fail begins q r LinesFail.memory = LinesFail.memory
 item_fail begins q r (LinesFail.lex s e j o) = LinesFail.lex (reads_append r.reads s) e j (λ l. begins_with q r s (o l))
-item_fail begins q r (LinesFail.syntax s o n) = LinesFail.syntax (reads_append r.reads s) (λ l. syntax_begins q r s (o l)) (λ any l. none_any (λ a. none_with begins r s (n a l)) any)
-item_fail begins q r (LinesFail.deep s o n) = LinesFail.deep (reads_append r.reads s) (begins_with q r s o) (λ any. none_any (λ a. none_with begins r s (n a)) any)
+item_fail begins q r (LinesFail.syntax s o n) = LinesFail.syntax (reads_append r.reads s) (λ l. syntax_begins q r s (o l)) (λ any l. none_any _ (λ a. none_with begins r s (n a l)) any)
+item_fail begins q r (LinesFail.deep s o n) = LinesFail.deep (reads_append r.reads s) (begins_with q r s o) (λ any. none_any _ (λ a. none_with begins r s (n a)) any)
 item_fail begins q r (LinesFail.many_items s o n) = LinesFail.many_items (reads_append r.reads s) (λ l. begins_with q r s (o l)) (λ l. none_with begins r s (n l))
 
 -- the line doesn't end behind the item
@@ -286,6 +286,21 @@ too_many text t b begins = LinesFail.many_items Reads.here (λ l. item_begins (o
     let d = item_first p (seen_item text t more begins) in
     let none : suc (length d.others) ≤ 0 = subst (λ v. length v ≤ 0) d.all few in
     omega (arith, none))
+
+-- how many tokens may be left
+one_at_most : (b : Bool) → (if b then 0 else 1) ≤ 1
+one_at_most true = omega arith
+one_at_most false = omega arith
+
+pub left_within : (text : List ℕ) (t : Token) → left text t ≤ length text + 1
+left_within text t = omega (arith, one_at_most (is_end t.kind))
+
+one : (b : Bool) → b ≡ false → 1 ≤ (if b then 0 else 1)
+one true h = absurd (false≢true (sym h))
+one false h = omega arith
+
+pub left_some : (text : List ℕ) (t : Token) → is_end t.kind ≡ false → 1 ≤ left text t
+left_some text t h = omega (arith, one (is_end t.kind) h)
 
 -- Items before others.
 pub before_items_push : (text : List ℕ) (xs : List Item) (i : Item) (ys : List SurfaceItem) → before_items text (xs ++ i ∷ []) ys ≡ before_items text xs (item_view text i ∷ ys)

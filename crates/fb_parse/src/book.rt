@@ -1,5 +1,5 @@
 //! Books.
-ghost use Rattle.std.specs.Prelude.{◌≡◌, ◌<◌, ◌+◌, ◌^◌, length, All, MatchResult, IfOk};
+ghost use Rattle.std.specs.Prelude.{◌≡◌, ◌<◌, ◌≤◌, ◌+◌, ◌^◌, length, MatchResult};
 ghost use Rattle.fb_parse.specs.ItemParts as part;
 ghost use Rattle.fb_parse.specs.Items as spec;
 ghost use Rattle.fb_parse.specs.Reading.{Stands};

@@ -11,8 +11,8 @@ use Rattle.fb_parse.proofs.book.lines.Given as goal
 abbrev pub invariant-lines : goal.invariant-lines
 invariant-lines l = record {
   stands : Stands l.text l.next;
-  read : (is : List SurfaceItem) → LinesAre l.text l.bars l.next is → LinesAre l.text 0 l.first (before_items l.text l.items.items is);
-  fails : (f : ParseFault) → LinesFail l.text l.bars (100_000 - vec_len l.items) l.next f → LinesFail l.text 0 100_000 l.first f;
+  read : (is : List SurfaceItem) → LinesAre l.text l.bars l.next is → LinesAre l.text 0 l.fn.first (before_items l.text l.items.items is);
+  fails : (f : ParseFault) → LinesFail l.text l.bars (100_000 - vec_len l.items) l.next f → LinesFail l.text 0 100_000 l.fn.first f;
   few : vec_len l.items ≤ 100_000;
   room : l.bars + left l.text l.next ≤ length l.text + 1;
 }
