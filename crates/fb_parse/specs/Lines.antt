@@ -1,5 +1,5 @@
 -- What the lines from a token on are, or how they fail.
-use Rattle.std.specs.Prelude.{◌≡◌, ℕ, suc, ◌+◌, ◌≤◌, List, [], ◌∷◌, ◌++◌, length, Some}
+use Rattle.std.specs.Prelude.{◌≡◌, ℕ, suc, ◌+◌, ◌≤◌, false, List, [], ◌∷◌, ◌++◌, length, Some}
 use Rattle.fb_lex.specs.declared.tokens.Kind.TheVariants as k
 use Rattle.fb_lex.specs.declared.tokens.Token.{Token}
 use Rattle.fb_lex.specs.declared.tokens.LexFault.{LexFault}

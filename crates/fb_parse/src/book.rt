@@ -1,5 +1,5 @@
 //! Books.
-ghost use Rattle.std.specs.Prelude.{◌≡◌, ◌<◌, ◌+◌, ◌^◌, length, All, MatchResult, IfOk};
+ghost use Rattle.std.specs.Prelude.{◌≡◌, ◌<◌, ◌≤◌, ◌+◌, ◌^◌, length, MatchResult};
 ghost use Rattle.fb_parse.specs.ItemParts as part;
 ghost use Rattle.fb_parse.specs.Items as spec;
 ghost use Rattle.fb_parse.specs.Reading.{Stands};
@@ -8,8 +8,8 @@ ghost use Rattle.fb_parse.specs.ItemView.{items_view};
 
 use crate::fault::ParseFault;
 use crate::item::item;
-use crate::steps::expect;
-use crate::tree::{Book, Item};
+use crate::steps::advance;
+use crate::tree::Book;
 use bumpalo::Bump;
 use bumpalo::collections::into_bump_slice;
 use fb_lex::{Kind, Token};
@@ -44,11 +44,11 @@ pub fn lines<'a>(arena: &'a Bump, text: &'a [u8], first: Token) -> Result<Book<'
         match next.kind {
             Kind::End => break,
             Kind::Bar => {
-                next = expect(text, next, Kind::Bar)?;
+                next = advance(text, next)?;
                 bars += 1;
             }
             Kind::Newline => {
-                next = expect(text, next, Kind::Newline)?;
+                next = advance(text, next)?;
                 bars = 0;
             }
             _ => {
