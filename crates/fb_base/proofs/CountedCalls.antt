@@ -1,10 +1,10 @@
 -- How the calls on a desk in memory end: those that go well, and those that are to fail.
-use Rattle.std.proofs.Common.{◌≡◌, ℕ, ◌+◌, ◌≤◌, ◌==◌, IsTrue, Bool, true, false, List, [], ◌∷◌, length, Option, Some, None, Result, Ok, Err, IsErrOf, refl, ap, sym, ◌∙◌, arith, inl, inr, subst}
+use Rattle.std.proofs.Common.{◌≡◌, ℕ, ◌≤◌, ◌==◌, IsTrue, List, [], ◌∷◌, length, Option, Some, Ok, Err, IsErrOf, sym, arith, subst}
 use Rattle.std.proofs.lemmas.Grind.{common_steps}
 use Rattle.std.specs.Prelude.{find, option_map}
 use Rattle.std.specs.Option.{IsSomeAnd}
 use Rattle.fb_base.specs.Desk.{Seen, Rose, IsCall, counted}
-use Rattle.fb_base.specs.MemDesk.{next_failing, went_well, went_wrong}
+use Rattle.fb_base.specs.MemDesk.{next_failing}
 use Rattle.fb_base.specs.declared.desk.DeskFault.{DeskFault}
 use Rattle.fb_base.specs.declared.desk.DeskFault.TheVariants.{Failed, Memory}
 use Rattle.fb_base.specs.declared.mem.Calls.{Calls}

@@ -1,5 +1,5 @@
 -- Files in a list, of which the later counts: what a longer list and a longer last file show.
-use Rattle.std.proofs.Common.{◌≡◌, ◌≢◌, ℕ, suc, ◌+◌, ◌-◌, ◌<◌, Bool, true, false, if◌then◌else◌, List, [], ◌∷◌, ◌++◌, length, reverse, get_or, set, take, find, Option, Some, None, refl, ap, sym, ◌∙◌, arith, subst}
+use Rattle.std.proofs.Common.{◌≡◌, ◌≢◌, ℕ, ◌+◌, ◌-◌, ◌<◌, Bool, true, false, if◌then◌else◌, List, [], ◌∷◌, ◌++◌, length, reverse, get_or, set, take, find, Some, refl, ap, sym, ◌∙◌, arith}
 use Rattle.std.proofs.lemmas.List.{take_more, take_more_set, take_all, length-set, reverse-append}
 use Rattle.std.proofs.lemmas.Grind.{common_steps}
 use Rattle.std.proofs.lemmas.Slice.Eq.{bytes_eq-Decides}
@@ -27,15 +27,17 @@ last_grows files count file d content bytes some counted at grown = record {
   earlier = take (count - 1) files;
   file = file;
   before = sym (take_all count files (omega (arith, counted))) ∙ ap (λ n. take n files) step ∙ take_more files (count - 1) d inside
-    ∙ ap (λ (f : List ℕ × List ℕ). take (count - 1) files ++ f ∷ []) (sym at);
+      ∙ ap (λ (f : List ℕ × List ℕ). take (count - 1) files ++ f ∷ []) (sym at);
   after = sym (take_all count written (omega (arith, counted, length-set {A = List ℕ × List ℕ} files (count - 1) (file.0, content)))) ∙ ap (λ n. take n written) step
-    ∙ take_more_set files (count - 1) (file.0, content) inside ∙ ap (λ c. take (count - 1) files ++ (file.0, c) ∷ []) grown;
+      ∙ take_more_set files (count - 1) (file.0, content) inside ∙ ap (λ c. take (count - 1) files ++ (file.0, c) ∷ []) grown;
 }
   where
     written : List (List ℕ × List ℕ)
     written = set files (count - 1) (file.0, content)
+
     step : count ≡ count - 1 + 1
     step = omega arith
+
     inside : count - 1 < length files
     inside = omega arith
 

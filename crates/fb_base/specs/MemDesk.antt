@@ -1,5 +1,5 @@
 -- What a desk in memory holds, and how its calls fail.
-use Rattle.std.specs.Prelude.{◌≡◌, ◌⊎◌, ℕ, ◌+◌, ◌-◌, min, Bool, true, false, ◌==◌, if◌then◌else◌, List, [], ◌++◌, length, take, find, reverse, slice_get, Option, Some, None, IsSome, option_map, unwrap_or, Result, Ok, Err, OnOk}
+use Rattle.std.specs.Prelude.{◌≡◌, ◌⊎◌, ℕ, true, false, ◌==◌, if◌then◌else◌, List, [], ◌++◌, length, find, Option, Some, None, IsSome, option_map, Result, Ok, Err, OnOk}
 use Rattle.std.specs.Option.{IsSomeAnd}
 use Rattle.fb_base.specs.MemFiles.{last_of, last_name, part_of}
 use Rattle.fb_base.specs.Desk.{Seen, content_of, counted}

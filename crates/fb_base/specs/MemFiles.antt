@@ -1,5 +1,5 @@
 -- Files in a list, of which the later counts.
-use Rattle.std.specs.Prelude.{◌≡◌, ℕ, ◌-◌, min, List, [], ◌∷◌, ◌++◌, length, take, find, reverse, slice_get, Option, Some, None, option_map, unwrap_or}
+use Rattle.std.specs.Prelude.{◌≡◌, ℕ, ◌-◌, min, List, [], ◌∷◌, ◌++◌, length, take, find, reverse, slice_get, Option, option_map, unwrap_or}
 use Rattle.std.specs.Str.{bytes_eq}
 
 -- the content of the last file of that name

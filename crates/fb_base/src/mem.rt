@@ -204,9 +204,7 @@ fn push_empty(alloc: Global, files: &mut Vec<(Text, Text)>, name: &str) -> Resul
     ensures err { OnErr result (files.new.items ≡ files.old.items) }
 {
     let name = Text::from_bytes(alloc, name.as_bytes())?;
-    files
-        .push((name, Text::empty(alloc)))
-        .map_err(|_| NoMemory)
+    files.push((name, Text::empty(alloc))).map_err(|_| NoMemory)
 }
 
 // puts bytes at the end of the last file

@@ -1,5 +1,4 @@
-use Rattle.std.proofs.Common.{◌≡◌, ◌-◌, ◌==◌, ◌++◌, min, length, refl, ap, ◌∙◌, sym, rules, Some, List, subst, Option, ℕ, []}
-use Rattle.std.proofs.lemmas.Grind.{common_steps}
+use Rattle.std.proofs.Common.{◌-◌, ◌==◌, min, length, refl, ap, sym, rules, List, subst, Option, ℕ, []}
 use Rattle.std.specs.Prelude.{unwrap_or}
 use Rattle.fb_base.specs.declared.mem.Calls.{Calls}
 use Rattle.fb_base.proofs.CountedCalls.{wrong_call, right_call, none_to_fail, some_and}
@@ -28,7 +27,7 @@ returns-in_ok-append_to_last-in-Some-clause-appends c =
     let grows = subst (LastGrows c.args.self.now.files.items c.append_to_last-in-Some.new.files.items) c.part_of.ensures c.in_ok-append_to_last-in-Some.ensures.ok in
     record {
       call = wrong_call _ _ _ c.went_wrong.ensures.fault refl refl (ap (λ (calls : Calls). length calls.fails.items == 0) counts)
-        (ap (λ (calls : Calls). calls.faults) counts) c.went_wrong.ensures.never_falls;
+          (ap (λ (calls : Calls). calls.faults) counts) c.went_wrong.ensures.never_falls;
       said = refl;
       started = refl;
       target = grown_name _ _ _ grows;

@@ -1,4 +1,4 @@
-use Rattle.std.proofs.Common.{◌≡◌, ◌==◌, length, refl, ap, sym, inl, inr, rules, arith, Option, List, ℕ}
+use Rattle.std.proofs.Common.{◌==◌, length, refl, ap, sym, inl, inr, rules, arith}
 use Rattle.std.proofs.lemmas.Grind.{common_steps}
 use Rattle.fb_base.specs.declared.mem.Calls.{Calls}
 use Rattle.fb_base.proofs.CountedCalls.{right_call, wrong_call, none_to_fail, some_and}
@@ -25,7 +25,7 @@ returns-in-Some-eq0-clause-starts c =
     let counts = c.went_wrong.ensures.counts in
     record {
       call = wrong_call _ _ _ c.went_wrong.ensures.fault refl refl (ap (λ (calls : Calls). length calls.fails.items == 0) counts)
-        (ap (λ (calls : Calls). calls.faults) counts) c.went_wrong.ensures.never_falls;
+          (ap (λ (calls : Calls). calls.faults) counts) c.went_wrong.ensures.never_falls;
       said = refl;
       others = λ _ _ _. refl;
       started = search rules;
@@ -41,7 +41,7 @@ returns-in_ok-push_empty-in-Some-clause-starts c =
     let pushed = c.in_ok-push_empty-in-Some.ensures.ok in
     record {
       call = wrong_call _ _ _ c.went_wrong-in-Some.ensures.fault refl refl (ap (λ (calls : Calls). length calls.fails.items == 0) counts)
-        (ap (λ (calls : Calls). calls.faults) counts) c.went_wrong-in-Some.ensures.never_falls;
+          (ap (λ (calls : Calls). calls.faults) counts) c.went_wrong-in-Some.ensures.never_falls;
       said = refl;
       others = λ _. pushed_others _ _ _ pushed;
       started = search rules;
