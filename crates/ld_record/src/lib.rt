@@ -4,6 +4,8 @@
 mod deriv;
 pub mod laws;
 mod record;
+#[cfg(test)]
+mod tests;
 
 pub use deriv::Deriv;
 pub use record::{CtxId, Judge, JudgeId, Kept, Step};
