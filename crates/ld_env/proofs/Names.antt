@@ -57,8 +57,8 @@ found_at name [] none k l e = omega arith
 found_at name (p ∷ ps) none zero l e = true≢false (sym (ap is_some (head_found name p ps (test_from_name name p.0 (sym e)))) ∙ none)
 found_at name (p ∷ ps) none (suc k) l e =
     bool_cases (is_name name p.0)
-      (λ h. true≢false (sym (ap is_some (head_found name p ps h)) ∙ none))
-      (λ h. found_at name ps (sym (ap is_some (tail_only name p ps h)) ∙ none) k (omega arith) e)
+    (λ h. true≢false (sym (ap is_some (head_found name p ps h)) ∙ none))
+    (λ h. found_at name ps (sym (ap is_some (tail_only name p ps h)) ∙ none) k (omega arith) e)
 
 pub absent : (name : List ℕ) (ps : Pairs) → is_some (lookup (is_name name) ps) ≡ false → Contains (names_of (named_of ps)) name → ⊥
 absent name ps none h = found_at name ps none h.0 h.1 h.2
@@ -68,8 +68,8 @@ pub missing : (name : List ℕ) (ps : Pairs) → (Contains (names_of (named_of p
 missing name [] free = refl
 missing name (p ∷ ps) free =
     bool_cases (is_name name p.0)
-      (λ h. absurd (free (0, omega arith, sym (name_from_test name p.0 h))))
-      (λ h. tail_only name p ps h ∙ missing name ps (λ c. free (suc c.0, omega (arith, c.1), c.2)))
+    (λ h. absurd (free (0, omega arith, sym (name_from_test name p.0 h))))
+    (λ h. tail_only name p ps h ∙ missing name ps (λ c. free (suc c.0, omega (arith, c.1), c.2)))
 
 -- the key at the place of a name
 pub record HasKey (ps : Pairs) (k : ℕ) (name : List ℕ) : Type 0 where
