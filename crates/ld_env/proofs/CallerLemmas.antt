@@ -1,5 +1,5 @@
 -- What a caller cites of an environment: its entries in trees, and what stays as terms and entries are added.
-use Rattle.std.proofs.Common.{◌≡◌, ◌≢◌, ◌<◌, ◌-◌, ℕ, zero, suc, List, [], ◌∷◌, ◌++◌, length, map, get_or, take, Option, None, Some, slice_get, Contains, All, refl, sym, ap, subst, ◌∙◌, arith}
+use Rattle.std.proofs.Common.{◌≡◌, ◌≢◌, ◌<◌, ◌-◌, ℕ, zero, suc, List, [], ◌∷◌, ◌++◌, length, map, get_or, take, Option, None, Some, slice_get, Contains, All, refl, ap, subst, ◌∙◌, arith}
 use Rattle.std.proofs.lemmas.List.Elements.{All-cons, All-head, All-tail, All-push, All-take}
 use Rattle.std.proofs.lemmas.List.{length_push}
 use Rattle.ld_terms.specs.Tree.{Tree, Trees, Nil}

@@ -1,5 +1,5 @@
 -- The names of a map's entries, and what its look-ups say of them.
-use Rattle.std.proofs.Common.{◌≡◌, ◌<◌, ℕ, zero, suc, Bool, true, false, cond, List, [], ◌∷◌, ◌++◌, length, map, get_or, Option, None, Some, slice_get, position, is_some, MatchOption, Contains, refl, sym, ap, subst, ◌∙◌, true≢false, arith, inl, inr}
+use Rattle.std.proofs.Common.{◌≡◌, ◌<◌, ℕ, zero, suc, Bool, true, false, cond, List, [], ◌∷◌, ◌++◌, length, get_or, Option, None, Some, slice_get, position, is_some, MatchOption, Contains, refl, sym, ap, ◌∙◌, true≢false, arith, inl, inr}
 use Rattle.std.specs.Global.{Vec}
 use Rattle.std.specs.Cmp.Lexicographic.{pointwise}
 use Rattle.std.specs.Prelude.{nat_eq}
@@ -11,7 +11,7 @@ use Rattle.std.proofs.lemmas.List.Quantifiers.{position-Some}
 use Rattle.std.proofs.lemmas.Map.Keys.{apart_from_distinct}
 use Rattle.std.proofs.lemmas.Option.{slice_get_within, slice_get_cases, get_or_from_slice_get}
 use Rattle.ld_env.specs.declared.env.Entry.{Entry}
-use Rattle.ld_env.specs.Named.{Named, named, named_of, names_of, entries_of, AreNamesDistinct}
+use Rattle.ld_env.specs.Named.{named, named_of, names_of, entries_of, AreNamesDistinct}
 
 bool_cases : {C : Type 0} (b : Bool) → (b ≡ true → C) → (b ≡ false → C) → C
 bool_cases true passes fails = passes refl

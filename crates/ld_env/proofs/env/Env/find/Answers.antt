@@ -1,5 +1,5 @@
-use Rattle.std.proofs.Common.{◌≡◌, Some, None, slice_get, Contains, is_some, subst, sym, ap, ◌∙◌}
-use Rattle.ld_env.specs.Named.{names_of, AreNamesDistinct}
+use Rattle.std.proofs.Common.{subst, sym}
+use Rattle.ld_env.specs.Named.{AreNamesDistinct}
 use Rattle.ld_env.proofs.Names.{absent, found_name, distinct_names}
 use Rattle.ld_env.proofs.env.Env.find.Goals as goal
 
