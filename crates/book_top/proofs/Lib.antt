@@ -1,2 +1,4 @@
 pub mod Wording
 pub mod Finding
+pub mod Readings
+pub mod Judging

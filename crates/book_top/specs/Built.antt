@@ -6,6 +6,8 @@ use Rattle.ld_terms.specs.Bank.{StandsFor}
 use Rattle.ld_terms.specs.declared.bank.TermId.{TermId}
 use Rattle.ld_terms.specs.declared.bank.TermFault.{TermFault}
 use Rattle.ld_terms.specs.declared.bank.TermFault.TheVariants as fault
+use Rattle.book_top.specs.declared.item.ItemStop.{ItemStop}
+use Rattle.book_top.specs.declared.item.ItemStop.TheVariants as stop
 
 -- that there is a value, or the error
 abbrev pub without_value : {A E : Type 0} → Result A E → Result (Unit {0}) E
@@ -22,3 +24,7 @@ abbrev pub Builds : List Item → Tree → Result TermId TermFault → Type 0
 Builds items t (Ok id) = StandsFor items id t × IsSmall (One t)
 Builds items t (Err fault.High) = ¬ IsSmall (One t)
 Builds items t (Err fault.Memory) = ⊤
+
+abbrev pub stop_of : TermFault → ItemStop
+stop_of fault.High = stop.High
+stop_of fault.Memory = stop.Memory

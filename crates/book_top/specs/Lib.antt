@@ -6,3 +6,4 @@ pub mod Report
 pub mod Desk
 pub mod Top
 pub mod Built
+pub mod Judged

@@ -51,15 +51,15 @@ term_of at (item.Same a) = Err (fault_at NotBuilt at)
 term_of at (item.Fill s c xs) = Err (fault_at NotBuilt at)
 
 -- no entry has the name
-abbrev pub name_free : SurfaceItem → Option ℕ → Result (Unit {0}) TextFault
-name_free i None = Ok tt
-name_free i (Some k) = Err (fault_at NameTaken i.name_span)
+abbrev pub name_free : Span → Option ℕ → Result (Unit {0}) TextFault
+name_free at None = Ok tt
+name_free at (Some k) = Err (fault_at NameTaken at)
 
 -- The names of the stated type are read before those of the body.
 abbrev pub reading_of : (names : List (List ℕ)) → SurfaceItem → SurfaceKind → Result Reading TextFault
 reading_of names i (item.Flag a) = Err (fault_at NotBuilt i.span)
-reading_of names i (item.Prim a) = name_free i (position (bytes_eq i.name) names) >>= λ free. tree_of names a >>= λ t. Ok (Prim t)
-reading_of names i (item.Line body a) = name_free i (position (bytes_eq i.name) names) >>= λ free.
+reading_of names i (item.Prim a) = name_free i.name_span (position (bytes_eq i.name) names) >>= λ free. tree_of names a >>= λ t. Ok (Prim t)
+reading_of names i (item.Line body a) = name_free i.name_span (position (bytes_eq i.name) names) >>= λ free.
     term_of i.span body >>= λ m. tree_of names a >>= λ t. tree_of names m >>= λ u. Ok (Line u t)
 
 -- an item behind bars is not built
