@@ -6,7 +6,7 @@ ghost use Rattle.ld_terms.specs.Bank.{tree_at, list_at, item_at, IsTermAt, IsLis
 ghost use Rattle.ld_infer.specs.Reading.{Answer};
 ghost use Rattle.ld_infer.specs.Reading as answer;
 ghost use Rattle.ld_infer.specs.Standing.{env, context, Continues};
-ghost use Rattle.ld_infer.specs.Infers.{NamesEntries, Infers, InfersSort, Stops};
+ghost use Rattle.ld_infer.specs.Infers.{NamesEntries, Infers, InfersSort, Stops, IsInstanceStep};
 ghost use Rattle.ld_infer.specs.declared.failure.RuleName.TheVariants as rule;
 
 use crate::failure::{Failure, InferFault, Path, PathStep, RuleName, Why};
@@ -130,15 +130,20 @@ fn instance(theory: &mut Theory, t: TermId, k: u32, us: TermId) -> Result<Typed,
     };
     let entry = theory.env().entry(k);
     let of = entry.of;
-    let prim = entry.body.is_none();
+    let body = entry.body;
     let star = theory.star_judgement()?;
-    let step = if prim {
-        Step::InstPrim(star)
-    } else {
-        Step::Inst(star)
-    };
-    let judge = theory.conclude(t, of, step)?;
+    let judge = theory.conclude(t, of, instance_step(body, star))?;
     Ok(Typed { of, judge })
+}
+
+// The rule for an instance of an entry with that body, or of a primitive where there is none.
+fn instance_step(body: Option<TermId>, star: JudgeId) -> Step
+    ensures { IsInstanceStep body star result }
+{
+    match body {
+        Some(_) => Step::Inst(star),
+        None => Step::InstPrim(star),
+    }
 }
 
 // The refusal of `box`, which has no type.
