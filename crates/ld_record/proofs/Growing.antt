@@ -1,10 +1,9 @@
 -- Contexts, judgements and entries are only added, so that what a number stands for stays.
 use Rattle.std.proofs.Common.{◌≡◌, ◌<◌, ◌≤◌, ◌+◌, ℕ, zero, suc, Bool, true, false, List, [], ◌∷◌, ◌++◌, length, get_or, refl, ap, sym, ◌∙◌, subst, arith, add-zero}
 use Rattle.std.proofs.lemmas.List.{get_or_append_left, get_or_at, length_push}
-use Rattle.ld_terms.specs.Tree.{Tree, Trees, Nil, ◌▸◌}
+use Rattle.ld_terms.specs.Tree.{Trees, Nil, ◌▸◌}
 use Rattle.ld_terms.specs.Item.{Item, tree}
 use Rattle.ld_terms.specs.Bank.{tree_at, Extends}
-use Rattle.ld_terms.specs.declared.bank.TermId.{TermId}
 use Rattle.ld_terms.proofs.Banks.{term_at_later}
 use Rattle.ld_terms.specs.Entry.{Primitive}
 use Rattle.ld_terms.specs.Entry as named

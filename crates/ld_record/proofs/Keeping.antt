@@ -1,15 +1,11 @@
 -- What a derivation's records say, and its tables, as one record more is kept.
-use Rattle.std.proofs.Common.{◌≡◌, ◌<◌, ◌≤◌, ◌+◌, ℕ, suc, Bool, List, [], ◌∷◌, ◌++◌, length, take, refl, ap, sym, ◌∙◌, subst, arith, add-zero}
+use Rattle.std.proofs.Common.{◌≡◌, ◌≤◌, ◌+◌, ℕ, Bool, List, [], ◌∷◌, ◌++◌, length, take, refl, ap, sym, ◌∙◌, subst, arith, add-zero}
 use Rattle.std.proofs.lemmas.List.{length_push, length-take, take_all, take_at, take-take}
-use Rattle.ld_terms.specs.Tree.{Trees, ◌▸◌}
+use Rattle.ld_terms.specs.Tree.{◌▸◌}
 use Rattle.ld_terms.specs.Item.{Item}
 use Rattle.ld_terms.specs.Bank.{tree_at}
-use Rattle.ld_terms.specs.declared.bank.TermId.{TermId}
-use Rattle.ld_terms.specs.Known.{Known, nothing, Judgement, context_at, judgement_at, with_context, with_node}
-use Rattle.ld_record.specs.declared.record.JudgeId.{JudgeId}
-use Rattle.ld_record.specs.declared.record.CtxId.{CtxId}
+use Rattle.ld_terms.specs.Known.{Known, nothing, context_at, with_context, with_node}
 use Rattle.ld_record.specs.declared.record.Judge.{Judge}
-use Rattle.ld_record.specs.declared.record.Step.{Step}
 use Rattle.ld_record.specs.declared.record.Kept.{Kept}
 use Rattle.ld_record.specs.declared.record.Kept.TheVariants.{Context, Node, Entry}
 use Rattle.ld_record.specs.Kept.{judgement_of, with_kept, known_after, known_of, Fits, AreSound, IsSound, Begins}

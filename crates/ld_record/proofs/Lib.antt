@@ -2,3 +2,9 @@ pub mod Lists
 pub mod Keeping
 pub mod Growing
 pub mod Lifting
+pub mod Rules
+pub mod Prefixes
+pub mod Holding
+pub mod Arguments
+pub mod Derived
+pub mod CallerLemmas

@@ -1,9 +1,9 @@
 -- A judgement led over the entries one by one.
-use Rattle.std.proofs.Common.{◌≡◌, ◌<◌, ◌≤◌, ◌+◌, ℕ, List, [], ◌∷◌, ◌++◌, length, refl, ap, sym, ◌∙◌, subst, arith}
-use Rattle.ld_terms.specs.Tree.{Trees, Nil}
+use Rattle.std.proofs.Common.{◌≡◌, ◌<◌, ◌+◌, ℕ, List, length, ap, sym, ◌∙◌, subst, arith}
+use Rattle.ld_terms.specs.Tree.{Trees}
 use Rattle.ld_terms.specs.Item.{Item}
-use Rattle.ld_terms.specs.Entry.{Env, Body, Primitive}
-use Rattle.ld_terms.specs.Known.{Known, Judgement, context_at, judgement_at, with_node}
+use Rattle.ld_terms.specs.Entry.{Primitive}
+use Rattle.ld_terms.specs.Known.{Known, Judgement, judgement_at}
 use Rattle.ld_record.specs.declared.record.JudgeId.{JudgeId}
 use Rattle.ld_record.specs.declared.record.Judge.{Judge}
 use Rattle.ld_record.specs.declared.record.Step.{Step}
@@ -13,7 +13,7 @@ use Rattle.ld_record.specs.Follows.{entry_at, IsDefined, Over, ByDef, ByDefPrim,
 use Rattle.ld_record.specs.Kept.{judgement_of, known_of, IsSound, FitsNode, Begins}
 use Rattle.ld_record.specs.Growth.{Knows, IsNodeOf, Adds, over_first, LeadsOver}
 use Rattle.ld_record.proofs.Keeping.{begins_refl, begins_trans}
-use Rattle.ld_record.proofs.Growing.{adds_refl, adds_trans, adds_by, adds_node}
+use Rattle.ld_record.proofs.Growing.{adds_refl, adds_trans}
 
 abbrev pub one_more : Judge → ℕ → Judge
 one_more judge n = record judge { entries = n + 1 }

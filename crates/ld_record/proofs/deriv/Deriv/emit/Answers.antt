@@ -1,9 +1,8 @@
-use Rattle.std.proofs.Common.{◌≡◌, ◌++◌, ◌∷◌, [], length, ◌+◌, arith, ap, sym, ◌∙◌, refl}
+use Rattle.std.proofs.Common.{◌≡◌, ◌++◌, ◌∷◌, [], length, arith, ap, ◌∙◌}
 use Rattle.std.proofs.lemmas.Grind.{common_steps}
 use Rattle.ld_record.specs.declared.record.Kept.TheVariants.{Node}
 use Rattle.ld_record.specs.Kept.{known_of, judgement_of}
 use Rattle.ld_record.specs.Tables.{judges_of}
-use Rattle.ld_terms.specs.Known.{with_node}
 use Rattle.ld_record.proofs.Keeping.{IsAdded, added, tables_push, nodes_known}
 use Rattle.ld_record.proofs.Growing.{last_known, knows_by, adds_by, adds_node}
 use Rattle.ld_record.proofs.deriv.Deriv.emit.Goals as goal
