@@ -1,6 +1,6 @@
--- What an entry unfolds to, and that a legal environment is scoped.
-use Rattle.std.specs.Prelude.{ℕ, ◌≡◌, ◌<◌, length, take, ◌++◌, slice_get}
-use Rattle.ld_terms.specs.Tree.{Tree, count}
+-- What an entry unfolds to, and what a legal environment is.
+use Rattle.std.specs.Prelude.{ℕ, ◌≡◌, ◌<◌, length, take, ◌++◌, slice_get, ⊤}
+use Rattle.ld_terms.specs.Tree.{Tree, Star, Box, Var, App, Lam, Pi, Const, Trees, Nil, ◌▸◌, count}
 use Rattle.ld_terms.specs.Entry.{Env, EntryAt, Entry, UnfoldsTo, IsScoped, IsScopedEnv}
 use Rattle.ld_terms.specs.Derivable.{◌⨾◌⊢◌∶◌, IsLegal}
 
@@ -23,3 +23,26 @@ UnfoldsKept = (Δ more : Env) (k : ℕ) → k < length Δ → slice_get (Δ ++ m
 -- a legal environment is scoped
 abbrev pub LegalScoped : Type 0
 LegalScoped = (Δ : Env) → IsLegal Δ → IsScopedEnv Δ
+
+-- each instance in the tree is of an entry with such a number
+abbrev mutual
+  pub NamesOnly : (ℕ → Type 0) → Tree → Type 0
+  NamesOnly P Star = ⊤
+  NamesOnly P Box = ⊤
+  NamesOnly P (Var i) = ⊤
+  NamesOnly P (App f u) = NamesOnly P f × NamesOnly P u
+  NamesOnly P (Lam A M) = NamesOnly P A × NamesOnly P M
+  NamesOnly P (Pi A B) = NamesOnly P A × NamesOnly P B
+  NamesOnly P (Const k us) = P k × AllNameOnly P us
+
+  pub AllNameOnly : (ℕ → Type 0) → Trees → Type 0
+  AllNameOnly P Nil = ⊤
+  AllNameOnly P (us ▸ u) = AllNameOnly P us × NamesOnly P u
+
+-- what an entry unfolds to names only entries before it
+abbrev pub IsOrdered : Env → Type 0
+IsOrdered Δ = (k : ℕ) (e : Entry) (t : Tree) → EntryAt Δ k e → UnfoldsTo e.body t → NamesOnly (λ j. j < k) t
+
+-- a legal environment is ordered
+abbrev pub LegalOrdered : Type 0
+LegalOrdered = (Δ : Env) → IsLegal Δ → IsOrdered Δ
