@@ -8,7 +8,7 @@ use Rattle.ld_laws.proofs.Putting.{sub_put_all, sub_put_one}
 use Rattle.ld_laws.proofs.Decisions.{unfolds_body}
 use Rattle.ld_laws.proofs.Parallel.{count_sub}
 
--- conversion under a substitution
+-- a substitution keeps steps and conversion
 mutual
   pub step_sub : {Δ : Env} (scoped : IsScopedEnv Δ) {t u : Tree} (s : ℕ → Tree) → Step Δ t u → Step Δ (sub s t) (sub s u)
   step_sub {Δ} scoped s (beta {M = m} {N = n}) = subst (Step Δ _) (sym (sub_put_one m n s)) beta
@@ -32,7 +32,7 @@ converts_sub scoped s same = same
 converts_sub scoped s (back c) = back (converts_sub scoped s c)
 converts_sub scoped s (chain c d) = chain (converts_sub scoped s c) (converts_sub scoped s d)
 
--- conversion over more entries
+-- each entry is in the other environment too, at its number; this keeps steps and conversion
 abbrev pub Extends : Env → Env → Type 0
 Extends Δ Δ' = (k : ℕ) (e : Entry) → EntryAt Δ k e → EntryAt Δ' k e
 
@@ -58,6 +58,7 @@ converts_extends x same = same
 converts_extends x (back c) = back (converts_extends x c)
 converts_extends x (chain c d) = chain (converts_extends x c) (converts_extends x d)
 
+-- more entries at the end
 pub extends_more : (Δ others : Env) (k : ℕ) (e : Entry) → EntryAt Δ k e → EntryAt (Δ ++ others) k e
 extends_more [] others k e h = absurd (cc)
 extends_more (x ∷ Δ) others zero e h = h

@@ -12,6 +12,7 @@ use Rattle.ld_laws.proofs.LegalContexts.{legal_of, suits_arguments, suits_one, w
 use Rattle.ld_laws.proofs.Inversion.{generation, has_sort_moved}
 use Rattle.ld_laws.proofs.Entries.{HoldsOfEach, holds_more, holds_none, take_extends}
 
+-- `box`, or a tree that has a sort
 pub data IsCorrect (Δ : Env) (Γ : Trees) : Tree → Type 0 where
   is_box : IsCorrect Δ Γ Box
   sorted : {n : Tree} → HasSort Δ Γ n → IsCorrect Δ Γ n
@@ -19,6 +20,7 @@ pub data IsCorrect (Δ : Env) (Γ : Trees) : Tree → Type 0 where
 IsCorrectEntry : Env → Entry → Type 0
 IsCorrectEntry Δ e = IsCorrect Δ e.params e.type
 
+-- one lemma for each rule
 correct_var : {Δ : Env} {Γ : Trees} {a s : Tree} → IsSort s → Δ ⨾ Γ ⊢ a ∶ s → IsCorrect Δ (Γ ▸ a) (lift a 1 0)
 correct_var h d = sorted (record { of = _; is_sort = h; typed = weak_sort h d h d })
 

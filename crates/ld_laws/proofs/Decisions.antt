@@ -30,7 +30,7 @@ unfolds_or_not Primitive = inr (λ t u. no_unfolding u)
     no_unfolding : {t : Tree} → UnfoldsTo Primitive t → ⊥
     no_unfolding u = elim u [ ]
 
--- an instance of the entry k with m arguments has a step
+-- an instance of the entry k with m arguments has a step at its head, to the body with the arguments put in
 pub record Redex (Δ : Env) (k m : ℕ) : Type 0 where
   pub entry : Entry
   pub tree : Tree
@@ -38,12 +38,14 @@ pub record Redex (Δ : Env) (k m : ℕ) : Type 0 where
   pub unfolds : UnfoldsTo entry.body tree
   pub fits : m ≡ count entry.params
 
+-- it has one such step
 pub redex_once : {Δ : Env} {k m : ℕ} (r q : Redex Δ k m) → r.tree ≡ q.tree
 redex_once r q =
     let e : r.entry ≡ q.entry = cc (r.at, q.at) in
     unfolds_once (subst (λ x. UnfoldsTo x.body r.tree) e r.unfolds) q.unfolds
 
-redex_at : (Δ : Env) (k m : ℕ) (e : Entry) → EntryAt Δ k e → (((t : Tree) × UnfoldsTo e.body t) ⊎ ((t : Tree) → UnfoldsTo e.body t → ⊥)) → Dec (m ≡ count e.params) → Redex Δ k m ⊎ (Redex Δ k m → ⊥)
+redex_at : (Δ : Env) (k m : ℕ) (e : Entry) → EntryAt Δ k e →
+    ((t : Tree) × UnfoldsTo e.body t) ⊎ ((t : Tree) → UnfoldsTo e.body t → ⊥) → Dec (m ≡ count e.params) → Redex Δ k m ⊎ (Redex Δ k m → ⊥)
 redex_at Δ k m e at (inl u) (yes q) = inl (record { entry = e; tree = u.0; at = at; unfolds = u.1; fits = q })
 redex_at Δ k m e at (inl u) (no ne) = inr other
   where

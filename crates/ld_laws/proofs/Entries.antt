@@ -14,6 +14,7 @@ pub data MadeOver (Δ : Env) : Entry → Type 0 where
   with_body : {e : Entry} {m : Tree} → HasBody e.body m → Δ ⨾ e.params ⊢ m ∶ e.type → MadeOver Δ e
   primitive : {e : Entry} {s : Tree} → IsSort s → e.body ≡ Primitive → Δ ⨾ e.params ⊢ e.type ∶ s → MadeOver Δ e
 
+-- the entries before one, in an extended environment
 take_before : (Δ : Env) (d : Entry) (k : ℕ) (e : Entry) → EntryAt Δ k e → take k Δ ≡ take k (Δ ++ (d ∷ []))
 take_before [] d k e h = absurd (cc)
 take_before (x ∷ Δ) d zero e h = refl
@@ -45,6 +46,7 @@ module _ (Holds : Env → Entry → Type 0) where
         | inr r ↦ subst₂ Holds (take_all Δ d ∙ ap (λ j. take j (Δ ++ (d ∷ []))) (sym r.0)) r.1 g
       ]
 
+-- each entry of a judgement's environment was made over the entries before it
 pub made_over : {Δ : Env} {Γ : Trees} {m n : Tree} → Δ ⨾ Γ ⊢ m ∶ n → HoldsOfEach MadeOver Δ
 made_over sort = holds_none MadeOver
 made_over (var h d) = made_over d

@@ -15,6 +15,7 @@ use Rattle.ld_laws.proofs.Moving.{Suits, arguments_move, into_sort, last_moves, 
 use Rattle.ld_laws.proofs.LegalContexts.{legal_of, sub_var, suits_same}
 use Rattle.ld_laws.proofs.BoxFree.{box_apart}
 
+-- a tree with a sort, moved
 pub has_sort_moved : {Δ Δ' : Env} {Γ Γ' : Trees} {a : Tree} (s : ℕ → Tree) → Extends Δ Δ' → Suits Δ' Γ' s Γ → HasSort Δ Γ a → HasSort Δ' Γ' (sub s a)
 has_sort_moved {Δ' = Δ'} {Γ' = Γ'} s x f h = record { of = h.of; is_sort = h.is_sort; typed = into_sort s h.is_sort (moved h.typed Δ' Γ' s x f) }
 
@@ -32,13 +33,16 @@ retyped (Const k us) h d c g = record { entry = g.entry; at = g.at; arguments = 
 abbrev names : (ℕ → ℕ) → ℕ → Tree
 names r i = Var (r i)
 
+-- a substitution leaves a sort as it is
 sort_stays : (Δ : Env) {t : Tree} (p : ℕ → Tree) → IsSort t → Converts Δ t (sub p t)
 sort_stays Δ p star = same
 sort_stays Δ p box = same
 
+-- equal trees convert
 pub converts_by : {Δ : Env} {t u : Tree} → t ≡ u → Converts Δ t u
 converts_by {Δ} {t} e = subst (Converts Δ t) e same
 
+-- what a derivation comes from, its context renamed into another and its environment extended
 made : {Δ : Env} {Γ : Trees} {m n : Tree} → Δ ⨾ Γ ⊢ m ∶ n → (Δ' : Env) (Γ' : Trees) (r : ℕ → ℕ) → Extends Δ Δ' → Suits Δ' Γ' (names r) Γ →
     ((i : ℕ) (t : Tree) → At Γ i t → At Γ' (r i) (sub (names r) t)) → Generated Δ' Γ' (sub (names r) m) (sub (names r) n)
 made sort Δ' Γ' r x f g = refl
@@ -69,10 +73,12 @@ made (def {Δ = Δ} h k d e) Δ' Γ' r x f g = made d Δ' Γ' r (λ k b at. x k 
 made (def_prim {Δ = Δ} h p k d e) Δ' Γ' r x f g = made d Δ' Γ' r (λ k b at. x k b (entry_before Δ _ k b at)) f g
 made (inst {us = us} {e = e} at b d args) Δ' Γ' r x f g =
     let c = (scopes d).of_env _ _ at in
-    record { entry = e; at = x _ _ at; arguments = arguments_move args c.params Δ' Γ' (names r) x f; converts = converts_by (sym (sub_put_all e.type us (names r) (subst (IsScoped e.type) (sym (arguments_scope args).1) c.type))) }
+    let q = sub_put_all e.type us (names r) (subst (IsScoped e.type) (sym (arguments_scope args).1) c.type) in
+    record { entry = e; at = x _ _ at; arguments = arguments_move args c.params Δ' Γ' (names r) x f; converts = converts_by (sym q) }
 made (inst_prim {us = us} {e = e} at b d args) Δ' Γ' r x f g =
     let c = (scopes d).of_env _ _ at in
-    record { entry = e; at = x _ _ at; arguments = arguments_move args c.params Δ' Γ' (names r) x f; converts = converts_by (sym (sub_put_all e.type us (names r) (subst (IsScoped e.type) (sym (arguments_scope args).1) c.type))) }
+    let q = sub_put_all e.type us (names r) (subst (IsScoped e.type) (sym (arguments_scope args).1) c.type) in
+    record { entry = e; at = x _ _ at; arguments = arguments_move args c.params Δ' Γ' (names r) x f; converts = converts_by (sym q) }
 
 pub generation : Generation
 generation Δ Γ m n d =

@@ -15,6 +15,7 @@ use Rattle.ld_laws.proofs.Scoping.{scopes}
 use Rattle.ld_laws.proofs.Converting.{Extends, converts_sub}
 use Rattle.ld_laws.proofs.Moving.{Suits, moved, sub_of_lift, weaker}
 
+-- the context of a judgement is legal
 pub legal_of : {Δ : Env} {Γ : Trees} {m n : Tree} → Δ ⨾ Γ ⊢ m ∶ n → IsLegalContext Δ Γ
 legal_of sort = sort
 legal_of (var h d) = weak h (legal_of d) d
@@ -31,7 +32,7 @@ legal_of (inst_prim at b d args) = d
 pub sub_var : (t : Tree) → sub Var t ≡ t
 sub_var t = sub_same t Var (λ i. refl)
 
--- the last type of a context in which something is derivable
+-- the last type of a legal context has a sort
 abbrev pub LastIsTyped : Env → Trees → Type 0
 LastIsTyped Δ Nil = ⊤
 LastIsTyped Δ (Γ ▸ a) = HasSort Δ Γ a
@@ -53,10 +54,12 @@ last_of (def_prim {Δ = Δ} {Γ = Γ} h p g d e) = last_over Δ _ Γ (λ c m n f
 last_of (inst at b d args) = last_of d
 last_of (inst_prim at b d args) = last_of d
 
+-- in a legal context each variable has its type
 pub variable_typed : {Δ : Env} {Γ : Trees} {i : ℕ} {t : Tree} → IsLegalContext Δ Γ → At Γ i t → Δ ⨾ Γ ⊢ Var i ∶ t
 variable_typed d here = let l = last_of d in var l.is_sort l.typed
 variable_typed d (there at) = let l = last_of d in weaker l.is_sort (variable_typed (legal_of l.typed) at) l.typed
 
+-- the identity
 pub suits_same : {Δ : Env} {Γ : Trees} → IsLegalContext Δ Γ → Suits Δ Γ Var Γ
 suits_same {Δ} {Γ} d = record { legal = d; each = λ i t at. subst (Derivable Δ Γ (Var i)) (sym (sub_var t)) (variable_typed d at) }
 
@@ -93,11 +96,12 @@ suits_joined {Δ} {Γ} d args = record { legal = d; each = λ i t at. each args 
         subst (Derivable Δ Γ (in_place us i)) (sub_of_lift t (in_place (us ▸ u))) (each args at)
 
 -- a judgement under an entry's parameters, with the arguments put in
-pub put_all : {Δ Δ0 : Env} {Γ ps us : Trees} {m n : Tree} → Extends Δ0 Δ → IsLegalContext Δ Γ → Δ ⨾ Γ ⊢ us ∶∶ ps → Δ0 ⨾ ps ⊢ m ∶ n → Δ ⨾ Γ ⊢ put m us ∶ put n us
+pub put_all : {Δ Δ0 : Env} {Γ ps us : Trees} {m n : Tree} → Extends Δ0 Δ → IsLegalContext Δ Γ → Δ ⨾ Γ ⊢ us ∶∶ ps →
+    Δ0 ⨾ ps ⊢ m ∶ n → Δ ⨾ Γ ⊢ put m us ∶ put n us
 put_all {Δ} {Δ0} {Γ} {ps} {us} {m} {n} x l args d =
     subst₂ (Derivable Δ Γ) (sym (put_as_sub m us)) (sym (put_as_sub n us)) (moved d Δ Γ (in_place us) x (suits_arguments l args))
 
--- one tree
+-- one tree for the last variable
 pub suits_one : {Δ : Env} {Γ : Trees} {a n : Tree} → Δ ⨾ Γ ⊢ n ∶ a → Suits Δ Γ (in_place (Nil ▸ n)) (Γ ▸ a)
 suits_one {Δ} {Γ} {a} {n} d = suits_joined (legal_of d) (more none (subst (Derivable Δ Γ n) (sym (put_as_sub a Nil ∙ sub_var a)) d))
 
@@ -107,11 +111,12 @@ lift_as_sub t = lift_next t ∙ ren_as_sub t next (λ i. Var (suc i)) (λ i. ref
 pub converts_lift : {Δ : Env} (scoped : IsScopedEnv Δ) {t u : Tree} → Converts Δ t u → Converts Δ (lift t 1 0) (lift u 1 0)
 converts_lift {Δ} scoped {t} {u} c = subst₂ (Converts Δ) (sym (lift_as_sub t)) (sym (lift_as_sub u)) (converts_sub scoped (λ i. Var (suc i)) c)
 
+-- the rule weak, of a type
 pub weak_sort : {Δ : Env} {Γ : Trees} {a c s t : Tree} → IsSort s → Δ ⨾ Γ ⊢ a ∶ s → IsSort t → Δ ⨾ Γ ⊢ c ∶ t → Δ ⨾ Γ ▸ c ⊢ lift a 1 0 ∶ s
 weak_sort star d h e = weak h d e
 weak_sort box d h e = weak h d e
 
--- a context with another last type, in which the variable has the old one
+-- the identity, from a context with another last type, which converts to the old one
 pub suits_retyped : {Δ : Env} {Γ : Trees} {a b s t : Tree} → IsSort s → Δ ⨾ Γ ⊢ a ∶ s → IsSort t → Δ ⨾ Γ ⊢ b ∶ t → Converts Δ b a → Suits Δ (Γ ▸ b) Var (Γ ▸ a)
 suits_retyped {Δ} {Γ} {a} {b} h d g e c = record { legal = weak g (legal_of e) e; each = each }
   where
@@ -120,7 +125,7 @@ suits_retyped {Δ} {Γ} {a} {b} h d g e c = record { legal = weak g (legal_of e)
         subst (Derivable Δ (Γ ▸ b) (Var 0)) (sym (sub_var (lift a 1 0))) (conv h (converts_lift (scopes e).of_env c) (var g e) (weak_sort h d g e))
     each i t (there at) = subst (Derivable Δ (Γ ▸ b) _) (sym (sub_var t)) (variable_typed (weak g (legal_of e) e) (there at))
 
--- the type of a variable, by one lifting
+-- the type of a variable by one lifting, for who looks it up in a list
 pub at_lifted : {Γ : Trees} {i : ℕ} {t : Tree} → At Γ i t → t ≡ lift (in_place Γ i) (suc i) 0
 at_lifted here = refl
 at_lifted (there {B = t} {i = i} at) = ap (λ x. lift x 1 0) (at_lifted at) ∙ lift_next _ ∙ next_lift _ (suc i)

@@ -45,9 +45,6 @@ below_lt us d i h = grind (arith, nat_tests)
 below_ge : (us : Trees) (d i : ℕ) → d ≤ i → in_place_below us d i ≡ lift (in_place us (i - d)) d 0
 below_ge us d i h = grind (arith, nat_tests)
 
-shift_zero : (by i : ℕ) → shift by 0 i ≡ i + by
-shift_zero by i = grind (arith, nat_tests)
-
 pub next_lift : (t : Tree) (d : ℕ) → ren next (lift t d 0) ≡ lift t (suc d) 0
 next_lift t d =
     ap (ren next) (lift_ren t d 0 (shift d 0) (λ i. refl))
@@ -82,7 +79,7 @@ mutual
   put_sub_all Nil us d s h = refl
   put_sub_all (vs ▸ v) us d s h = ap₂ ◌▸◌ (put_sub_all vs us d s h) (put_sub v us d s h)
 
--- the three forms in which the rules use them
+-- as the rules use them
 pub lift_next : (t : Tree) → lift t 1 0 ≡ ren next t
 lift_next t = lift_ren t 1 0 next (λ i. grind (arith, nat_tests))
 
@@ -98,13 +95,12 @@ below_zero us i = below_ge us 0 i (omega arith) ∙ lift_none (in_place us (i - 
 pub put_as_sub : (t : Tree) (us : Trees) → put t us ≡ sub (in_place us) t
 put_as_sub t us = put_sub t us 0 (in_place us) (below_zero us)
 
--- a renaming of what was put in
+-- a substitution after a list put in, where the list replaces all free variables
 in_place_sub : (us : Trees) (s : ℕ → Tree) (i : ℕ) → i < count us → sub s (in_place us i) ≡ in_place (sub_all s us) i
 in_place_sub Nil s i lt = absurd (omega arith)
 in_place_sub (us ▸ u) s zero lt = refl
 in_place_sub (us ▸ u) s (suc i) lt = in_place_sub us s i (omega arith)
 
--- of a tree whose free variables are all replaced
 pub sub_put_all : (t : Tree) (us : Trees) (s : ℕ → Tree) → IsScoped t (count us) → sub s (put t us) ≡ put t (sub_all s us)
 sub_put_all t us s c =
     ap (sub s) (put_as_sub t us)
@@ -112,7 +108,7 @@ sub_put_all t us s c =
     ∙ sub_agree t (count us) (λ i. sub s (in_place us i)) (in_place (sub_all s us)) c (in_place_sub us s)
     ∙ sym (put_as_sub t (sub_all s us))
 
--- of one tree put in
+-- the same after one tree put in for the last variable, and after a lift by one
 one_up : (s : ℕ → Tree) (n : Tree) (i : ℕ) → sub s (in_place (Nil ▸ n) i) ≡ sub (in_place (Nil ▸ sub s n)) (up s i)
 one_up s n zero = refl
 one_up s n (suc i) = sym (sub_ren (s i) (in_place (Nil ▸ sub s n)) next Var (λ j. refl) ∙ sub_same (s i) Var (λ j. refl))

@@ -11,6 +11,7 @@ use Rattle.ld_laws.proofs.Putting.{below_suc, below_zero, put_sub}
 use Rattle.ld_laws.proofs.Moving.{Suits, into_sort, moved, suits_up}
 use Rattle.ld_laws.proofs.LegalContexts.{last_of, legal_of, put_all, suits_agree, suits_joined}
 
+-- a context is legal where a longer one is
 legal_before : {Δ : Env} (Γ ps : Trees) → IsLegalContext Δ (joined Γ ps) → IsLegalContext Δ Γ
 legal_before Γ Nil l = l
 legal_before Γ (ps ▸ a) l = let h = last_of l in legal_before Γ ps (legal_of h.typed)

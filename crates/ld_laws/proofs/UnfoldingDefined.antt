@@ -5,7 +5,7 @@ use Rattle.std.proofs.lemmas.Bool.{cases_lt}
 use Rattle.std.specs.Prelude.{⊤}
 use mathlib.Core.Logic.{inl, inr, ◌⊎◌}
 use mathlib.Core.Path.{subst₂}
-use Rattle.ld_terms.specs.Entry.{Entry, EntryAt, Env, IsScoped, IsScopedEnv, UnfoldsTo}
+use Rattle.ld_terms.specs.Entry.{Env, IsScoped, IsScopedEnv}
 use Rattle.ld_terms.specs.Put.{in_place, put}
 use Rattle.ld_terms.specs.Tree.{App, Box, Const, Lam, Nil, Pi, Star, Tree, Trees, Var, count, ◌▸◌}
 use Rattle.ld_laws.specs.Entries.{AllNameOnly, IsOrdered, NamesOnly}
@@ -91,7 +91,8 @@ in_place_settled (more ps p) zero = settled p
 in_place_settled (more ps p) (suc i) = in_place_settled ps i
 
 -- unfolded arguments put in
-unfolded_put : {Δ : Env} (scoped : IsScopedEnv Δ) {from : ℕ} {t u : Tree} {us vs : Trees} → Unfolded Δ from t u → UnfoldedEach Δ from us vs → Unfolded Δ from (put t vs) (put u vs)
+unfolded_put : {Δ : Env} (scoped : IsScopedEnv Δ) {from : ℕ} {t u : Tree} {us vs : Trees} → Unfolded Δ from t u → UnfoldedEach Δ from us vs →
+    Unfolded Δ from (put t vs) (put u vs)
 unfolding AreSettled
 unfolded_put {Δ} scoped {from} {t} {u} {vs = vs} p ps =
     subst₂ (Unfolded Δ from) (sym (put_as_sub t vs)) (sym (put_as_sub u vs))
@@ -101,8 +102,10 @@ abbrev HasUnfolding : Env → ℕ → Tree → Type 0
 HasUnfolding Δ from t = (u : Tree) × Unfolded Δ from t u
 
 -- a tree whose instances are all of entries whose bodies have full unfoldings
-module _ (Δ : Env) (scoped : IsScopedEnv Δ) (from : ℕ) (P : ℕ → Type 0) (below : (k : ℕ) → P k → (r : Tree) → NamesOnly (λ j. j < k) r → HasUnfolding Δ from r) (ordered : IsOrdered Δ) where
-  instance_unfolds : (k : ℕ) (us vs : Trees) → P k → UnfoldedEach Δ from us vs → (k < from) ⊎ (from ≤ k) → Redex Δ k (count us) ⊎ HasNoUnfolding Δ k us → HasUnfolding Δ from (Const k us)
+module _ (Δ : Env) (scoped : IsScopedEnv Δ) (ordered : IsOrdered Δ) (from : ℕ) (P : ℕ → Type 0)
+    (below : (k : ℕ) → P k → (r : Tree) → NamesOnly (λ j. j < k) r → HasUnfolding Δ from r) where
+  instance_unfolds : (k : ℕ) (us vs : Trees) → P k → UnfoldedEach Δ from us vs → (k < from) ⊎ (from ≤ k) →
+      Redex Δ k (count us) ⊎ HasNoUnfolding Δ k us → HasUnfolding Δ from (Const k us)
   instance_unfolds k us vs h ps (inl lt) d = (Const k vs, kept (inl lt) ps)
   instance_unfolds k us vs h ps (inr ge) (inr shut) = (Const k vs, kept (inr shut) ps)
   instance_unfolds k us vs h ps (inr ge) (inl r) =
@@ -127,7 +130,7 @@ module _ (Δ : Env) (scoped : IsScopedEnv Δ) (from : ℕ) (P : ℕ → Type 0) 
 body_unfolds : (Δ : Env) → IsScopedEnv Δ → IsOrdered Δ → (from n k : ℕ) → k < n → (t : Tree) → NamesOnly (λ j. j < k) t → HasUnfolding Δ from t
 body_unfolds Δ scoped ordered from zero k lt t c = absurd (omega arith)
 body_unfolds Δ scoped ordered from (suc n) k lt t c =
-    tree_unfolds Δ scoped from (λ j. j < k) (λ j l r d. body_unfolds Δ scoped ordered from n j (omega arith) r d) ordered t c
+    tree_unfolds Δ scoped ordered from (λ j. j < k) (λ j l r d. body_unfolds Δ scoped ordered from n j (omega arith) r d) t c
 
 mutual
   names_any : (t : Tree) → NamesOnly (λ k. ⊤) t
@@ -145,4 +148,4 @@ mutual
 
 pub unfolding_defined : UnfoldingDefined
 unfolding_defined Δ scoped ordered from t =
-    tree_unfolds Δ scoped from (λ k. ⊤) (λ k h r c. body_unfolds Δ scoped ordered from (suc k) k (omega arith) r c) ordered t (names_any t)
+    tree_unfolds Δ scoped ordered from (λ k. ⊤) (λ k h r c. body_unfolds Δ scoped ordered from (suc k) k (omega arith) r c) t (names_any t)

@@ -11,6 +11,7 @@ use Rattle.ld_laws.proofs.BoxFree.{box_untyped}
 use Rattle.ld_laws.proofs.Inversion.{converts_by, generation}
 use Rattle.ld_laws.proofs.Preservation.{product_parts, put_converts, under_pi}
 
+-- a variable has one type in a context
 at_once : {Γ : Trees} {i : ℕ} {t u : Tree} → At Γ i t → At Γ i u → t ≡ u
 at_once here here = refl
 at_once (there p) (there q) = ap (λ t. lift t 1 0) (at_once p q)

@@ -27,6 +27,7 @@ shift_past (ps ▸ a) i = step_on (count ps) i ∙ ap suc (shift_past ps i)
     step_on : (n i : ℕ) → shift (suc n) 0 i ≡ suc (shift n 0 i)
     step_on n i = grind (arith, nat_tests)
 
+-- one more variable in the greater context
 lift_of_sub : (t : Tree) (s : ℕ → Tree) → lift (sub s t) 1 0 ≡ sub (λ i. ren next (s i)) t
 lift_of_sub t s = lift_next (sub s t) ∙ ren_sub t next s (λ i. ren next (s i)) (λ i. refl)
 
