@@ -24,5 +24,5 @@ pub returns-clause-judged : goal.returns-clause-judged
 returns-clause-judged c =
     on_ok_weaker c.emit.result
     (λ kept. judged_more c.args.bank.now c.entry.new.self c.emit.new.self _ kept
-      (judged_more c.args.bank.now c.args.deriv.now c.entry.new.self _ c.in_ok-entry.ensures.kept c.requires.judged tt) tt)
+    (judged_more c.args.bank.now c.args.deriv.now c.entry.new.self _ c.in_ok-entry.ensures.kept c.requires.judged tt) tt)
     c.emit.ensures.kept
