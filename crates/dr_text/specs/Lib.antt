@@ -1,0 +1,5 @@
+pub mod Number
+pub mod Spelling
+pub mod Derives
+pub mod Named
+pub mod Written

@@ -1,0 +1,95 @@
+//! The bytes of records.
+ghost use Rattle.std.specs.Prelude.{◌≡◌, ◌++◌, ◌∷◌, ◌<◌, ◌^◌, List, ℕ, OnOk};
+ghost use Rattle.std.specs.List.{AllByRecursion};
+ghost use Rattle.ld_terms.specs.Record.{Record};
+ghost use Rattle.ld_terms.specs.Rule.{rule_numbers};
+ghost use Rattle.ld_record.specs.Follows.{rule_of};
+ghost use Rattle.dr_text.specs.Spelling.{tag, node_tag, numbers_bytes, header};
+ghost use Rattle.dr_text.specs.Written.{Pushes, entry_record};
+
+use crate::number::push_numbers;
+use fb_base::{NoMemory, Text};
+use ld_record::{Judge, JudgeId, Step};
+
+/// The bytes with which a derivation file begins.
+pub fn header() -> &'static [u8]
+    ensures { result.now ≡ header }
+{
+    b"LDDERIV1"
+}
+
+/// Appends a tag and numbers.
+pub fn push_record(tag: u8, numbers: &[usize], out: &mut Vec<u8>) -> Result<(), NoMemory>
+    ensures bytes { OnOk result (out.new.items ≡ out.old.items ++ tag ∷ numbers_bytes numbers.now) }
+    ensures range { AllByRecursion (λ n. n < 2 ^ 64) numbers.now }
+{
+    out.push(tag).map_err(|_| NoMemory)?;
+    push_numbers(numbers, out)
+}
+
+/// Appends a judgement, whose term and type have these numbers.
+pub fn push_node(
+    judge: &Judge,
+    step: &Step,
+    term: usize,
+    of: usize,
+    out: &mut Vec<u8>,
+) -> Result<(), NoMemory>
+    ensures { OnOk result (Pushes out.old.items out.new.items
+        (Record.Node judge.now.entries judge.now.ctx.0 term of (rule_of step.now))) }
+{
+    let numbers = [judge.entries as usize, judge.ctx.number(), term, of];
+    push_record(step_tag(step), &numbers, out)?;
+    push_premises(step, out)
+}
+
+fn step_tag(step: &Step) -> u8
+    ensures { result ≡ node_tag (rule_of step.now) }
+{
+    match step {
+        Step::Sort => 0x30,
+        Step::Weak(..) => 0x32,
+        Step::Form(..) => 0x33,
+        Step::Def(_) => 0x37,
+        Step::DefPrim(_) => 0x38,
+        Step::Inst(_) => 0x39,
+        Step::InstPrim(_) => 0x3a,
+    }
+}
+
+// Instances have no arguments, whose count is 0.
+fn push_premises(step: &Step, out: &mut Vec<u8>) -> Result<(), NoMemory>
+    ensures bytes { OnOk result (out.new.items ≡ out.old.items ++ numbers_bytes (rule_numbers (rule_of step.now))) }
+    ensures range { AllByRecursion (λ n. n < 2 ^ 64) (rule_numbers (rule_of step.now)) }
+{
+    match step {
+        Step::Sort => Ok(()),
+        Step::Weak(n, m) | Step::Form(n, m) => push_numbers(&[n.number(), m.number()], out),
+        Step::Def(n) | Step::DefPrim(n) => push_numbers(&[n.number()], out),
+        Step::Inst(n) | Step::InstPrim(n) => push_numbers(&[n.number(), 0], out),
+    }
+}
+
+/// Appends an entry.
+pub fn push_entry(name: &Text, j: &JudgeId, prim: bool, out: &mut Vec<u8>) -> Result<(), NoMemory>
+    ensures { OnOk result (Pushes out.old.items out.new.items (entry_record prim name.now j.now.0)) }
+{
+    let bytes = name.bytes();
+    push_record(entry_tag(prim), &[bytes.len()], out)?;
+    push_bytes(bytes, out)?;
+    push_numbers(&[j.number()], out)
+}
+
+fn push_bytes(bytes: &[u8], out: &mut Vec<u8>) -> Result<(), NoMemory>
+    ensures bytes { OnOk result (out.new.items ≡ out.old.items ++ bytes.now) }
+    ensures range { AllByRecursion (λ b. b < 256) bytes.now }
+{
+    out.extend_from_slice(bytes).map_err(|_| NoMemory)?;
+    Ok(())
+}
+
+fn entry_tag(prim: bool) -> u8
+    ensures { (name : List ℕ) (n : ℕ) → result ≡ tag (entry_record prim name n) }
+{
+    if prim { 0x41 } else { 0x40 }
+}

@@ -1,0 +1,111 @@
+//! Derivation files, byte by byte.
+ghost use Rattle.std.specs.Prelude.{◌≡◌, ◌<◌, ◌≤◌, [], length, Some, IfOk, OnOk};
+ghost use Rattle.ld_terms.specs.Tree as tree;
+ghost use Rattle.ld_terms.specs.Bank.{StandsFor};
+ghost use Rattle.ld_terms.specs.Known.{nothing, no_judgement, with_node};
+ghost use Rattle.ld_record.specs.Kept.{known_of, IsSound};
+ghost use Rattle.ld_record.specs.Growth.{Knows};
+ghost use Rattle.dr_text.specs.Named.{AreTypesJudged};
+ghost use Rattle.dr_text.specs.Written.{last_judgement};
+
+use crate::{Writer, header};
+use fb_base::{NoMemory, Text};
+use ld_record::{Deriv, Judge, JudgeId, Step};
+use ld_terms::{Bank, Node, TermId};
+use std::alloc::Global;
+use std::test::Fail;
+
+// `* : box` over no entries.
+fn start(
+    deriv: &mut Deriv,
+    bank: &Bank,
+    star: TermId,
+    box_sort: TermId,
+) -> Result<JudgeId, NoMemory>
+    requires none { deriv.old ≡ [] }
+    requires star { StandsFor bank.now star tree.Star }
+    requires box_sort { StandsFor bank.now box_sort tree.Box }
+    ensures known { OnOk result (known_of bank.now deriv.new ≡ with_node nothing no_judgement) }
+    ensures number { IfOk result (λ j. j.0 ≡ 0) }
+    ensures sound { IsSound bank.now deriv.new }
+    ensures judged { OnOk result (AreTypesJudged bank.now deriv.new) }
+{
+    let judge = Judge {
+        entries: 0,
+        ctx: deriv.empty(),
+        term: star,
+        of: box_sort,
+    };
+    deriv.emit(bank, judge, Step::Sort)
+}
+
+// The entry of a primitive, and `* : box` over it.
+fn primitive(
+    deriv: &mut Deriv,
+    bank: &Bank,
+    name: Text,
+    star: TermId,
+    box_sort: TermId,
+    j: JudgeId,
+) -> Result<JudgeId, NoMemory>
+    requires sound { IsSound bank.now deriv.old }
+    requires judged { AreTypesJudged bank.now deriv.old }
+    requires known { known_of bank.now deriv.old ≡ with_node nothing no_judgement }
+    requires number { j.0 ≡ 0 }
+    requires some { 0 < length name }
+    requires short { length name ≤ 255 }
+    requires star { StandsFor bank.now star tree.Star }
+    requires box_sort { StandsFor bank.now box_sort tree.Box }
+    ensures number { IfOk result (λ k. Knows (known_of bank.now deriv.new) k (last_judgement (known_of bank.now deriv.new))) }
+    ensures sound { IsSound bank.now deriv.new }
+    ensures judged { OnOk result (AreTypesJudged bank.now deriv.new) }
+{
+    deriv.entry(bank, name, j, true)?;
+    let judge = Judge {
+        entries: 1,
+        ctx: deriv.empty(),
+        term: star,
+        of: box_sort,
+    };
+    deriv.emit(bank, judge, Step::DefPrim(j))
+}
+
+// All that a writer writes of a derivation, with its end.
+fn written(alloc: Global, bank: &Bank, deriv: &Deriv, last: JudgeId) -> Result<Vec<u8>, Fail>
+    requires sound { IsSound bank.now deriv.now }
+    requires judged { AreTypesJudged bank.now deriv.now }
+    requires last { Knows (known_of bank.now deriv.now) last (last_judgement (known_of bank.now deriv.now)) }
+{
+    let mut out = header().to_vec(alloc)?;
+    Writer::new(alloc).chunk(bank, deriv, Some(last), &mut out)?;
+    Ok(out)
+}
+
+#[test]
+fn writes_no_entries(rt: HostRuntime) -> Result<(), Fail> {
+    let mut bank = Bank::new(rt.alloc());
+    let star = bank.add(Node::Star)?;
+    let box_sort = bank.add(Node::Box_)?;
+    let mut deriv = Deriv::new(rt.alloc());
+    let last = start(&mut deriv, &bank, star, box_sort)?;
+    let out = written(rt.alloc(), &bank, &deriv, last)?;
+    let wanted = b"LDDERIV1\x01\x02\x30\x00\x00\x00\x01\x60\x00";
+    assert_eq!(rt; out.as_slice(), wanted.as_slice());
+    Ok(())
+}
+
+#[test]
+fn writes_a_primitive(rt: HostRuntime) -> Result<(), Fail> {
+    let mut bank = Bank::new(rt.alloc());
+    let star = bank.add(Node::Star)?;
+    let box_sort = bank.add(Node::Box_)?;
+    let mut deriv = Deriv::new(rt.alloc());
+    let first = start(&mut deriv, &bank, star, box_sort)?;
+    let name = Text::from_bytes(rt.alloc(), b"A")?;
+    let last = primitive(&mut deriv, &bank, name, star, box_sort, first)?;
+    let out = written(rt.alloc(), &bank, &deriv, last)?;
+    let wanted =
+        b"LDDERIV1\x01\x02\x30\x00\x00\x00\x01\x41\x01A\x00\x38\x01\x00\x00\x01\x00\x60\x01";
+    assert_eq!(rt; out.as_slice(), wanted.as_slice());
+    Ok(())
+}
