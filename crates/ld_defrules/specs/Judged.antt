@@ -1,5 +1,6 @@
 -- What the rules answer for an item, for the forms that are built, and what an item adds to a theory.
 use Rattle.std.specs.Prelude.{◌≡◌, ℕ, ◌+◌, Bool, true, false, List, [], ◌∷◌, ⊤, Result, Ok, Err}
+use Rattle.std.proofs.Math.Decide.{ℕ_discrete}
 use Rattle.ld_terms.specs.Tree.{Tree, Star, Box, Var, App, Lam, Pi, Const, Nil, count, Tree-discrete}
 use Rattle.ld_terms.specs.Entry.{Entry, Env, Defined, Primitive}
 use Rattle.ld_infer.specs.declared.failure.RuleName.{RuleName}

@@ -1,8 +1,9 @@
 //! Items of a book judged by the rules for definitions: a primitive, a line.
 #![tactic(auto)]
 
-ghost use Rattle.std.specs.Prelude.{◌≡◌, ◌<◌, ◌≤◌, ◌+◌, ◌^◌, ◌↔◌, List, length, Contains, IfOk, OnErr, MatchResult};
+ghost use Rattle.std.specs.Prelude.{◌≡◌, ◌<◌, ◌≤◌, ◌+◌, ◌^◌, ◌↔◌, List, length, Contains, IsTrue, false, IfOk, OnErr, MatchResult};
 ghost use Rattle.ld_terms.specs.Tree.{Nil, Box};
+ghost use Rattle.ld_terms.specs.Entry.{IsFresh};
 ghost use Rattle.ld_terms.specs.Item.{Item};
 ghost use Rattle.ld_terms.specs.Bank.{tree_at, IsTermAt};
 ghost use Rattle.ld_infer.specs.Standing.{env, context, Continues, Goes};
@@ -67,7 +68,7 @@ pub fn primitive(
     ensures context { context theory.new ≡ Nil }
     ensures err { OnErr result (Continues theory.old theory.new) }
 {
-    if theory.env().find(name).is_some() {
+    if is_taken(theory, name) {
         return Err(ItemFault::NameTaken);
     }
     let judge = type_sort(alloc, theory, RuleName::DefPrim, of)?;
@@ -101,7 +102,7 @@ pub fn define(
     ensures context { context theory.new ≡ Nil }
     ensures err { OnErr result (Continues theory.old theory.new) }
 {
-    if theory.env().find(name).is_some() {
+    if is_taken(theory, name) {
         return Err(ItemFault::NameTaken);
     }
     let judge = line_judgement(alloc, theory, body, of)?;
@@ -109,6 +110,14 @@ pub fn define(
         Ok(number) => Ok(number),
         Err(_) => Err(ItemFault::Memory),
     }
+}
+
+// Whether an entry has the name.
+fn is_taken(theory: &Theory, name: &[u8]) -> bool
+    ensures taken { IsTrue result ↔ Contains (names_of theory.now.entries) name.now }
+    ensures fresh { result ≡ false → IsFresh name.now (env theory.now) }
+{
+    theory.env().find(name).is_some()
 }
 
 // The judgement for a sort of an item's type, for which a rule asks as its second premise.
