@@ -1,13 +1,13 @@
 -- The records of a derivation are written, one after another.
-use Rattle.std.proofs.Common.{◌≡◌, ◌<◌, ◌+◌, ℕ, zero, suc, true, false, Option, Some, None, List, [], ◌∷◌, ◌++◌, length, take, get_or, refl, ap, sym, ◌∙◌, subst, arith, append_assoc}
+use Rattle.std.proofs.Common.{◌≡◌, ◌<◌, ◌+◌, ℕ, zero, suc, true, false, Some, None, List, [], ◌∷◌, ◌++◌, length, take, get_or, refl, ap, sym, ◌∙◌, subst, arith, append_assoc}
 use Rattle.std.specs.Prelude.{Bool, slice_get}
 use Rattle.std.proofs.lemmas.List.{append-nil, take_more, take_all}
 use Rattle.std.proofs.lemmas.Option.{get_or_from_slice_get}
-use Rattle.ld_terms.specs.Tree.{Tree, Star, Trees, ◌▸◌}
+use Rattle.ld_terms.specs.Tree.{Tree, Star, ◌▸◌}
 use Rattle.ld_terms.specs.Item.{Item}
 use Rattle.ld_terms.specs.Bank.{tree_at}
-use Rattle.ld_terms.specs.Known.{Known, nothing, Judgement, context_at, judgement_at, FollowsBy, MayEnd, with_context, with_node}
-use Rattle.ld_terms.specs.Record.{Record, State, start, term_at, IsThere, Meets, IsNoEnd, RuleIsThere, HasSpelling, Stands, Stand, after, final}
+use Rattle.ld_terms.specs.Known.{Known, nothing, Judgement, context_at, MayEnd, with_context, with_node}
+use Rattle.ld_terms.specs.Record.{Record, State, start, term_at, IsThere, Meets, IsNoEnd, after, final}
 use Rattle.ld_terms.specs.declared.bank.TermId.{TermId}
 use Rattle.ld_record.specs.declared.record.CtxId.{CtxId}
 use Rattle.ld_record.specs.declared.record.JudgeId.{JudgeId}
@@ -22,8 +22,7 @@ use Rattle.dr_text.specs.declared.terms.Terms.{Terms}
 use Rattle.dr_text.specs.declared.writer.Writer.{Writer}
 use Rattle.dr_text.specs.Named.{IsNamed, AreTypesJudged}
 use Rattle.dr_text.specs.Spelling.{header, record_bytes, records_bytes, spelling}
-use Rattle.dr_text.specs.Derives.{Derives}
-use Rattle.dr_text.specs.Written.{IsWritten, Matches, Writes, Pushes, Numbers, Reached, WritesKept, HasTerms, HasNamedTerms, Carries, Appends, GoesOn, last_judgement, entry_record}
+use Rattle.dr_text.specs.Written.{Matches, Writes, Pushes, Numbers, Reached, WritesKept, HasTerms, HasNamedTerms, Carries, Appends, last_judgement, entry_record}
 use Rattle.dr_text.proofs.Records.{final-append, stand-append, records_bytes-append, writes_none, writes_then, writes_more}
 use Rattle.ld_record.proofs.Keeping.{known_after-push}
 use Rattle.ld_record.proofs.Rules.{follows_by, premises_there}
@@ -59,9 +58,9 @@ context_written items old new before c later ctx t n first pushes s matches fits
     let x = final s one.writes.records in
     let B : Known → Type 0 = λ k. ctx.0 < length k.contexts in
     reached_last items s x new before c later (Record.Context ctx.0 n) _ one.writes refl one.matches tt pushes
-      (subst B (sym one.adds.known) fits.context, one.there) tt refl
-      (ap (λ (u : Tree). with_context x.known (context_at x.known ctx.0 ▸ u)) one.is
-      ∙ ap (λ (k : Known). with_context k (context_at k ctx.0 ▸ tree_at items t)) one.adds.known)
+    (subst B (sym one.adds.known) fits.context, one.there) tt refl
+    (ap (λ (u : Tree). with_context x.known (context_at x.known ctx.0 ▸ u)) one.is
+    ∙ ap (λ (k : Known). with_context k (context_at k ctx.0 ▸ tree_at items t)) one.adds.known)
 
 -- a judgement, where the state x has its term and its type
 node_reached : (items : List Item) (s x : State) (terms : Terms) (a c later : List ℕ) (judge : Judge) (rule : Step) (t u : ℕ) (w : Writes s a c) → final s w.records ≡ x
@@ -71,12 +70,12 @@ node_reached : (items : List Item) (s x : State) (terms : Terms) (a c later : Li
 node_reached items s x terms a c later judge rule t u w reach matches pushes fits t_there u_there t_is u_is =
     let q : Judgement = record { entries = judge.entries; context = context_at x.known judge.ctx.0; term = term_at x t; type = term_at x u } in
     let is : q ≡ judgement_of items x.known judge =
-        ap (λ (y : Tree). record q { term = y }) t_is ∙ ap (λ (y : Tree). record (judgement_of items x.known judge) { type = y }) u_is in
+    ap (λ (y : Tree). record q { term = y }) t_is ∙ ap (λ (y : Tree). record (judgement_of items x.known judge) { type = y }) u_is in
     let F : Judgement → Type 0 = λ j. Follows x.known j rule in
     let by : Follows x.known q rule = subst F (sym is) fits.follows in
     reached_last items s x terms a c later (Record.Node judge.entries judge.ctx.0 t u (rule_of rule)) _ w reach matches tt pushes
-      (fits.numbers.entries, fits.numbers.context, t_there, u_there, premises_there x q rule by) (follows_by x.known q rule by) refl
-      (ap (with_node x.known) is)
+    (fits.numbers.entries, fits.numbers.context, t_there, u_there, premises_there x q rule by) (follows_by x.known q rule by) refl
+    (ap (with_node x.known) is)
 
 pub node_written : (items : List Item) (old mid new : Terms) (a b c later : List ℕ) (judge : Judge) (rule : Step) (t u : ℕ)
     → Numbers items old mid a b (tree_at items judge.term) t → Numbers items mid new b c (tree_at items judge.of) u
@@ -91,8 +90,8 @@ node_written items old mid new a b c later judge rule t u first second pushes s 
     let F : Known → Type 0 = λ k. FitsNode items k judge rule in
     let R : Known → Type 0 = λ k. Reached items s new a later (with_kept items k (Node judge rule)) in
     subst R same
-      (node_reached items s x new a c later judge rule t u (writes_then s a b c one.writes two.writes) (final-append s one.writes.records two.writes.records)
-      two.matches pushes (subst F (sym same) fits) (omega (arith, one.there, two.adds.longer)) two.there (two.adds.kept t one.there ∙ one.is) two.is)
+    (node_reached items s x new a c later judge rule t u (writes_then s a b c one.writes two.writes) (final-append s one.writes.records two.writes.records)
+    two.matches pushes (subst F (sym same) fits) (omega (arith, one.there, two.adds.longer)) two.there (two.adds.kept t one.there ∙ one.is) two.is)
 
 pub entry_written : (items : List Item) (terms : Terms) (before later : List ℕ) (name : List ℕ) (j : JudgeId) (prim : Bool)
     → Pushes before later (entry_record prim name j.0) → WritesKept items terms terms before later (Entry name j prim)
@@ -159,21 +158,21 @@ pub appends_all : (items : List Item) (ks : List Kept) (old new : Writer) (befor
 appends_all items ks old new before later carries count = record {
   all = count;
   goes_on = λ front w.
-    let c = carries (final start w.records) w.matches w.known in
-    let reach : final start (w.records ++ c.writes.records) ≡ final (final start w.records) c.writes.records = final-append start w.records c.writes.records in
-    record {
-      added = records_bytes c.writes.records;
-      appended = c.writes.spelled;
-      content = record {
-        records = w.records ++ c.writes.records;
-        spelled = spelled_more front w.records c.writes.records w.spelled;
-        stand = stand-append start w.records c.writes.records w.stand c.writes.stand;
-        within = omega (arith, count);
-        known = ap (λ (z : State). z.known) reach ∙ c.knows ∙ ap (λ n. known_of items (take n ks)) (sym count);
-        matches = matches_by items new.terms (final (final start w.records) c.writes.records) (final start (w.records ++ c.writes.records))
-          (ap (λ (z : State). z.terms) reach) c.matches;
+      let c = carries (final start w.records) w.matches w.known in
+      let reach : final start (w.records ++ c.writes.records) ≡ final (final start w.records) c.writes.records = final-append start w.records c.writes.records in
+      record {
+        added = records_bytes c.writes.records;
+        appended = c.writes.spelled;
+        content = record {
+          records = w.records ++ c.writes.records;
+          spelled = spelled_more front w.records c.writes.records w.spelled;
+          stand = stand-append start w.records c.writes.records w.stand c.writes.stand;
+          within = omega (arith, count);
+          known = ap (λ (z : State). z.known) reach ∙ c.knows ∙ ap (λ n. known_of items (take n ks)) (sym count);
+          matches = matches_by items new.terms (final (final start w.records) c.writes.records) (final start (w.records ++ c.writes.records))
+              (ap (λ (z : State). z.terms) reach) c.matches;
+        };
       };
-    };
 }
 
 -- and the end behind them
@@ -183,28 +182,28 @@ pub appends_end : (items : List Item) (ks : List Kept) (old new : Writer) (befor
 appends_end items ks old new before mid later j carries count knows pushes = record {
   all = count;
   goes_on = λ front w.
-    let c = carries (final start w.records) w.matches w.known in
-    let rs = w.records ++ c.writes.records in
-    let reach : final start rs ≡ final (final start w.records) c.writes.records = final-append start w.records c.writes.records in
-    let known : (final start rs).known ≡ known_of items ks =
-        ap (λ (z : State). z.known) reach ∙ c.knows ∙ ap (known_of items) (take_all (length ks) ks (omega arith)) in
-    let L : Known → Type 0 = λ kn. j.0 < length kn.nodes in
-    let M : Known → Type 0 = λ kn. MayEnd kn j.0 in
-    let tail : records_bytes (c.writes.records ++ Record.End j.0 ∷ []) ≡ records_bytes c.writes.records ++ record_bytes (Record.End j.0) =
-        records_bytes-append c.writes.records (Record.End j.0 ∷ []) ∙ ap (λ bytes. records_bytes c.writes.records ++ bytes) (append-nil (record_bytes (Record.End j.0))) in
-    record {
-      added = records_bytes (c.writes.records ++ Record.End j.0 ∷ []);
-      appended = pushes.bytes ∙ ap (λ bytes. bytes ++ record_bytes (Record.End j.0)) c.writes.spelled
-          ∙ append_assoc before (records_bytes c.writes.records) (record_bytes (Record.End j.0)) ∙ ap (λ bytes. before ++ bytes) (sym tail);
-      content = record {
-        listed = rs;
-        last = j.0;
-        spelled = spelled_more front w.records (c.writes.records ++ Record.End j.0 ∷ []) w.spelled
-            ∙ ap spelling (sym (append_assoc w.records c.writes.records (Record.End j.0 ∷ [])));
-        stand = stand-append start w.records c.writes.records w.stand c.writes.stand;
-        end = record { spelling = pushes.spelling; there = subst L (sym known) knows.live; meets = subst M (sym known) knows.is };
-        env = ap (λ (kn : Known). kn.env) known;
-        notes = ap (λ (kn : Known). kn.notes) known;
+      let c = carries (final start w.records) w.matches w.known in
+      let rs = w.records ++ c.writes.records in
+      let reach : final start rs ≡ final (final start w.records) c.writes.records = final-append start w.records c.writes.records in
+      let known : (final start rs).known ≡ known_of items ks =
+      ap (λ (z : State). z.known) reach ∙ c.knows ∙ ap (known_of items) (take_all (length ks) ks (omega arith)) in
+      let L : Known → Type 0 = λ kn. j.0 < length kn.nodes in
+      let M : Known → Type 0 = λ kn. MayEnd kn j.0 in
+      let tail : records_bytes (c.writes.records ++ Record.End j.0 ∷ []) ≡ records_bytes c.writes.records ++ record_bytes (Record.End j.0) =
+      records_bytes-append c.writes.records (Record.End j.0 ∷ []) ∙ ap (λ bytes. records_bytes c.writes.records ++ bytes) (append-nil (record_bytes (Record.End j.0))) in
+      record {
+        added = records_bytes (c.writes.records ++ Record.End j.0 ∷ []);
+        appended = pushes.bytes ∙ ap (λ bytes. bytes ++ record_bytes (Record.End j.0)) c.writes.spelled
+            ∙ append_assoc before (records_bytes c.writes.records) (record_bytes (Record.End j.0)) ∙ ap (λ bytes. before ++ bytes) (sym tail);
+        content = record {
+          listed = rs;
+          last = j.0;
+          spelled = spelled_more front w.records (c.writes.records ++ Record.End j.0 ∷ []) w.spelled
+              ∙ ap spelling (sym (append_assoc w.records c.writes.records (Record.End j.0 ∷ [])));
+          stand = stand-append start w.records c.writes.records w.stand c.writes.stand;
+          end = record { spelling = pushes.spelling; there = subst L (sym known) knows.live; meets = subst M (sym known) knows.is };
+          env = ap (λ (kn : Known). kn.env) known;
+          notes = ap (λ (kn : Known). kn.notes) known;
+        };
       };
-    };
 }

@@ -8,15 +8,14 @@ use Rattle.ld_terms.specs.Put.{lift, lift_all}
 use Rattle.ld_terms.specs.Entry.{Env}
 use Rattle.ld_terms.specs.Entry as entry
 use Rattle.ld_terms.specs.Item.{Item}
-use Rattle.ld_terms.specs.Bank.{tree_at}
 use Rattle.ld_terms.specs.Known.{Known, nothing, Judgement, judgement_at, no_judgement, primitive_entry, with_node, with_entry}
 use Rattle.ld_terms.specs.Record.{params_at}
 use Rattle.ld_record.specs.declared.record.Step.{Step}
 use Rattle.ld_record.specs.declared.record.Step.TheVariants as step
 use Rattle.ld_record.specs.declared.record.Kept.{Kept}
 use Rattle.ld_record.specs.declared.record.Kept.TheVariants.{Context, Node, Entry}
-use Rattle.ld_record.specs.Follows.{entry_at, Instance, Follows}
-use Rattle.ld_record.specs.Kept.{with_kept, known_after, known_of, judgement_of, entry_by, Fits, AreSound, IsSound}
+use Rattle.ld_record.specs.Follows.{entry_at, Follows}
+use Rattle.ld_record.specs.Kept.{with_kept, known_after, judgement_of, entry_by, Fits, AreSound}
 use Rattle.dr_text.specs.Named.{IsNamed, AreNamed, HasJudgedType, HaveJudgedTypes}
 use Rattle.dr_text.specs.Written.{HasNamedTerms}
 

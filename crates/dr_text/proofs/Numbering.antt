@@ -1,5 +1,5 @@
 -- The terms that a writer has written, one after another.
-use Rattle.std.proofs.Common.{◌≡◌, ◌≢◌, ◌<◌, ◌≤◌, ◌+◌, ℕ, suc, List, [], ◌∷◌, ◌++◌, length, map, get_or, Option, Some, None, Result, Ok, Err, IfOk, OnOk, refl, ap, sym, ◌∙◌, subst, arith, inl, inr}
+use Rattle.std.proofs.Common.{◌≡◌, ◌≢◌, ◌<◌, ◌+◌, ℕ, suc, List, [], ◌∷◌, ◌++◌, length, map, get_or, Option, Some, None, refl, ap, sym, ◌∙◌, subst, arith, inl, inr}
 use Rattle.std.specs.List.{AllByRecursion}
 use Rattle.std.proofs.lemmas.List.{get_or_append_left, get_or_at, length_push, map-append}
 use Rattle.std.proofs.lemmas.Bool.{cases_eq}
@@ -8,13 +8,13 @@ use Rattle.ld_terms.specs.Tree as tree
 use Rattle.ld_terms.specs.Entry.{Env}
 use Rattle.ld_terms.specs.Item.{Item, One, IsSmall}
 use Rattle.ld_terms.specs.Item as item
-use Rattle.ld_terms.specs.Bank.{item_at, tree_at}
+use Rattle.ld_terms.specs.Bank.{tree_at}
 use Rattle.ld_terms.specs.Known.{Known, trees, extended}
 use Rattle.ld_terms.specs.Record.{Record, State, term_at, params_at, IsTerm, IsThere, Meets, IsNoEnd, after, final}
 use Rattle.ld_terms.specs.declared.bank.TermId.{TermId}
 use Rattle.dr_text.specs.declared.terms.Terms.{Terms}
-use Rattle.dr_text.specs.Named.{IsNamed, AreNamed}
-use Rattle.dr_text.specs.Written.{number_in, IsNumberOf, Matches, Writes, AddsTerms, Pushes, Numbered, AllNumbered, JustWritten, Numbers, NumbersAll, WritesTerm}
+use Rattle.dr_text.specs.Named.{IsNamed}
+use Rattle.dr_text.specs.Written.{number_in, IsNumberOf, Matches, Writes, AddsTerms, Pushes, JustWritten, Numbers, NumbersAll, WritesTerm}
 use Rattle.dr_text.proofs.Records.{writes_none, writes_then, writes_more, final-append}
 
 pub adds_none : (s : State) → AddsTerms s s
@@ -137,10 +137,10 @@ pair_written items old new before c later a b m n make r there meets makes parts
     let one = first s matches ((tt, names.0), names.1) in
     let x = final s one.writes.records in
     let is : make (term_at x m) (term_at x n) ≡ make a b =
-        ap (λ t. make t (term_at x n)) (left (term_at x m) (term_at x n) a b one.are) ∙ ap (make a) (right (term_at x m) (term_at x n) a b one.are) in
+    ap (λ t. make t (term_at x n)) (left (term_at x m) (term_at x n) a b one.are) ∙ ap (make a) (right (term_at x m) (term_at x n) a b one.are) in
     let S : Tree → Type 0 = λ t. IsSmall (One t) in
     just_last items s x new before c later (make a b) r one.writes refl one.adds one.matches no_end pushes
-      (there x one.there.0 one.there.1.0) (meets x (subst S (sym is) small)) (makes x ∙ ap (λ t. record x { terms = x.terms ++ t ∷ [] }) is)
+    (there x one.there.0 one.there.1.0) (meets x (subst S (sym is) small)) (makes x ∙ ap (λ t. record x { terms = x.terms ++ t ∷ [] }) is)
 
 count-extended : (us : Trees) (ts : List Tree) → count (extended us ts) ≡ count us + length ts
 count-extended us [] = omega arith
@@ -162,11 +162,11 @@ instance_written items old new before c later k us ns small first pushes s match
     let B : Known → Type 0 = λ known. k < length known.env in
     let C : Known → Type 0 = λ known. length ns ≡ params_at known.env k in
     let counted : length ns ≡ count us =
-        sym (length-terms (term_at x) ns) ∙ omega (arith, count-extended Nil (map (term_at x) ns)) ∙ ap count one.are in
+    sym (length-terms (term_at x) ns) ∙ omega (arith, count-extended Nil (map (term_at x) ns)) ∙ ap count one.are in
     just_last items s x new before c later (Const k us) (Record.Const k ns) one.writes refl one.adds one.matches tt pushes
-      (subst B (sym one.adds.known) named.0, one.there)
-      (subst C (sym one.adds.known) (counted ∙ named.1), subst S (sym is) small)
-      (ap (λ t. record x { terms = x.terms ++ t ∷ [] }) is)
+    (subst B (sym one.adds.known) named.0, one.there)
+    (subst C (sym one.adds.known) (counted ∙ named.1), subst S (sym is) small)
+    (ap (λ t. record x { terms = x.terms ++ t ∷ [] }) is)
 
 -- what holds of a term in the state that is reached
 record TermReached (items : List Item) (s x : State) (terms : Terms) (t : Tree) (n : ℕ) : Type 0 where

@@ -2,7 +2,7 @@
 use Rattle.std.proofs.Common.{◌≡◌, ◌<◌, ◌^◌, ℕ, suc, Bool, true, false, List, [], ◌∷◌, ◌++◌, length, get_or, Fits, w8, refl, ap, sym, ◌∙◌, subst, arith, append_assoc}
 use Rattle.std.specs.List.{AllByRecursion}
 use Rattle.std.proofs.lemmas.List.{append-nil}
-use Rattle.ld_terms.specs.Record.{Record, HasSpelling, State, IsNoEnd, Stands, Stand, after, final, name_of, numbers_before, numbers_behind}
+use Rattle.ld_terms.specs.Record.{Record, State, IsNoEnd, Stands, Stand, after, final, name_of, numbers_before, numbers_behind}
 use Rattle.dr_text.specs.Spelling.{tag, numbers_bytes, record_bytes, records_bytes}
 use Rattle.dr_text.specs.Written.{Pushes, Writes, entry_record}
 

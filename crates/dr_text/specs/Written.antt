@@ -11,7 +11,6 @@ use Rattle.ld_record.specs.declared.record.JudgeId.{JudgeId}
 use Rattle.ld_record.specs.declared.record.Kept.{Kept}
 use Rattle.ld_record.specs.declared.record.Kept.TheVariants.{Context, Node, Entry}
 use Rattle.ld_record.specs.Kept.{known_of, with_kept, Fits}
-use Rattle.ld_record.specs.Growth.{Knows}
 use Rattle.dr_text.specs.declared.terms.Terms.{Terms}
 use Rattle.dr_text.specs.declared.writer.Writer.{Writer}
 use Rattle.dr_text.specs.Named.{IsNamed, AreNamed}

@@ -39,7 +39,12 @@ impl Terms {
 
     /// The number of a term in the file. It is written behind its parts if it isn't there.
     #[cycle(terms)]
-    pub fn number_of(&mut self, bank: &Bank, t: TermId, out: &mut Vec<u8>) -> Result<usize, NoMemory>
+    pub fn number_of(
+        &mut self,
+        bank: &Bank,
+        t: TermId,
+        out: &mut Vec<u8>,
+    ) -> Result<usize, NoMemory>
         requires { IsTermAt bank.now t }
         ensures { IfOk result (λ n. Numbers bank.now self.old self.new out.old.items out.new.items (tree_at bank.now t) n) }
     {
@@ -84,7 +89,13 @@ impl Terms {
 
     // The numbers of two terms.
     #[cycle(terms)]
-    fn numbers_of_two(&mut self, bank: &Bank, a: TermId, b: TermId, out: &mut Vec<u8>) -> Result<(usize, usize), NoMemory>
+    fn numbers_of_two(
+        &mut self,
+        bank: &Bank,
+        a: TermId,
+        b: TermId,
+        out: &mut Vec<u8>,
+    ) -> Result<(usize, usize), NoMemory>
         requires first { IsTermAt bank.now a }
         requires second { IsTermAt bank.now b }
         ensures { IfOk result (λ ns. NumbersAll bank.now self.old self.new out.old.items out.new.items
@@ -97,7 +108,12 @@ impl Terms {
 
     // The numbers of the terms of a list.
     #[cycle(terms)]
-    fn numbers_of(&mut self, bank: &Bank, us: TermId, out: &mut Vec<u8>) -> Result<Vec<usize>, NoMemory>
+    fn numbers_of(
+        &mut self,
+        bank: &Bank,
+        us: TermId,
+        out: &mut Vec<u8>,
+    ) -> Result<Vec<usize>, NoMemory>
         requires { IsListAt bank.now us }
         ensures { IfOk result (λ ns. NumbersAll bank.now self.old self.new out.old.items out.new.items (list_at bank.now us) ns.items) }
     {

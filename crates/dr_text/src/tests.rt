@@ -71,12 +71,7 @@ fn primitive(
 }
 
 // All that a writer writes of a derivation, with its end.
-fn written(
-    alloc: Global,
-    bank: &Bank,
-    deriv: &Deriv,
-    last: JudgeId,
-) -> Result<Vec<u8>, Fail>
+fn written(alloc: Global, bank: &Bank, deriv: &Deriv, last: JudgeId) -> Result<Vec<u8>, Fail>
     requires sound { IsSound bank.now deriv.now }
     requires judged { AreTypesJudged bank.now deriv.now }
     requires last { Knows (known_of bank.now deriv.now) last (last_judgement (known_of bank.now deriv.now)) }
@@ -109,7 +104,8 @@ fn writes_a_primitive(rt: HostRuntime) -> Result<(), Fail> {
     let name = Text::from_bytes(rt.alloc(), b"A")?;
     let last = primitive(&mut deriv, &bank, name, star, box_sort, first)?;
     let out = written(rt.alloc(), &bank, &deriv, last)?;
-    let wanted = b"LDDERIV1\x01\x02\x30\x00\x00\x00\x01\x41\x01A\x00\x38\x01\x00\x00\x01\x00\x60\x01";
+    let wanted =
+        b"LDDERIV1\x01\x02\x30\x00\x00\x00\x01\x41\x01A\x00\x38\x01\x00\x00\x01\x00\x60\x01";
     assert_eq!(rt; out.as_slice(), wanted.as_slice());
     Ok(())
 }

@@ -71,12 +71,7 @@ impl Writer {
 }
 
 // Appends a record, behind the terms that it names.
-fn push_kept(
-    terms: &mut Terms,
-    bank: &Bank,
-    kept: &Kept,
-    out: &mut Vec<u8>,
-) -> Result<(), NoMemory>
+fn push_kept(terms: &mut Terms, bank: &Bank, kept: &Kept, out: &mut Vec<u8>) -> Result<(), NoMemory>
     requires { HasTerms bank.now kept.now }
     ensures { OnOk result (WritesKept bank.now terms.old terms.new out.old.items out.new.items kept.now) }
 {

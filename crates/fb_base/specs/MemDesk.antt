@@ -52,6 +52,7 @@ pub record IsNew (desk : MemDesk) (given : List (List ℕ × List ℕ)) (to_fail
   pub faults : (seen_of desk).faults ≡ 0
   pub first : desk.calls.number ≡ 0
   pub fails : desk.calls.fails.items ≡ to_fail
+  pub sound : (seen_of desk).sound ≡ (length to_fail == 0)
 
 -- A fetch fails where it is to fail, or where the file isn't there.
 abbrev pub FetchFails : MemDesk → (name : List ℕ) → Type 0

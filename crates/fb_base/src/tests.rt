@@ -1,5 +1,9 @@
 //! What no contract says: that calls succeed where memory is left, and that real files are reached.
-use crate::{Desk, HostDesk, MemDesk, NoMemory, Text, place};
+ghost use Rattle.std.specs.Prelude.{◌≡◌, IsErrOf, IsTrue, OnOk, Some};
+ghost use Rattle.fb_base.specs.Desk.{Rose, content_of};
+ghost use Rattle.fb_base.specs.declared.desk.DeskFault.TheVariants.{Failed};
+
+use crate::{Desk, DeskFault, HostDesk, MemDesk, NoMemory, Text, place};
 use std::alloc::Global;
 use std::fs;
 use std::process::Abort;
@@ -21,6 +25,17 @@ fn failing_desk(alloc: Global, number: u64, count: usize) -> Result<MemDesk, NoM
     fails.push((number, count)).map_err(|_| NoMemory)?;
     fails.push((number, 0)).map_err(|_| NoMemory)?;
     MemDesk::new(alloc, files, fails)
+}
+
+// A caller that knows no more of a desk than its trait says.
+fn copy<D: Desk>(alloc: Global, desk: &mut D, from: &str, to: &str) -> Result<(), DeskFault>
+    ensures rose { IsErrOf result Failed → Rose (D.seen desk.old).faults (D.seen desk.new).faults }
+    ensures said { (D.seen desk.new).said ≡ (D.seen desk.old).said }
+    ensures there { OnOk result (IsTrue (D.seen desk.old).tells_files → (D.seen desk.new).files to.now ≡ Some (content_of (D.seen desk.new) to.now)) }
+{
+    let bytes = desk.fetch(alloc, from, 100)?;
+    desk.start(to)?;
+    desk.append(&bytes)
 }
 
 #[test]
@@ -60,6 +75,8 @@ fn fetches_from_memory(rt: HostRuntime) -> Result<(), Fail> {
         b"a := b".as_slice()
     );
     assert_eq!(rt; desk.faults(), 2);
+    copy(rt.alloc(), &mut desk, "book", "new")?;
+    assert!(rt; desk.file("new") == desk.file("book"));
     Ok(())
 }
 

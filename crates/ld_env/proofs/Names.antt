@@ -30,10 +30,6 @@ name_from_test name key h = (slice_eq-Decides Decides-eqb name key.items _ refl)
 pub test_from_name : (name : List ℕ) (key : Vec ℕ) → name ≡ key.items → is_name name key ≡ true
 test_from_name name key e = (slice_eq-Decides Decides-eqb name key.items _ refl).1 e
 
-pub length-named_of : (ps : Pairs) → length (named_of ps) ≡ length ps
-length-named_of [] = refl
-length-named_of (p ∷ ps) = ap suc (length-named_of ps)
-
 pub named_of-push : (ps : Pairs) (p : Vec ℕ × Entry) → named_of (ps ++ p ∷ []) ≡ named_of ps ++ named p.0.items p.1 ∷ []
 named_of-push [] p = refl
 named_of-push (q ∷ ps) p = ap (λ ns. named q.0.items q.1 ∷ ns) (named_of-push ps p)

@@ -1,8 +1,7 @@
-use Rattle.std.proofs.Common.{◌≡◌, ℕ, [], refl, ap, sym, ◌∙◌, subst}
+use Rattle.std.proofs.Common.{ℕ, refl, sym, subst}
 use Rattle.std.proofs.lemmas.Result.{on_ok_weaker}
 use Rattle.ld_terms.specs.Record.{Record}
 use Rattle.ld_record.specs.declared.record.Kept.{Kept}
-use Rattle.ld_record.specs.declared.record.Kept.TheVariants.{Context, Node, Entry}
 use Rattle.dr_text.specs.Written.{Pushes, WritesKept}
 use Rattle.dr_text.proofs.Records.{pushes_plain}
 use Rattle.dr_text.proofs.Carrying.{context_written, node_written, entry_written}
@@ -14,9 +13,9 @@ returns-in_ok-t-in-Context c =
     let Q : ℕ → Type 0 = λ n. Pushes c.number_of.new.out.items c.push_record.new.out.items (Record.Context n c.in_ok-t-in-Context.t) in
     on_ok_weaker c.push_record.result
     (λ bytes. subst P (sym c.in-Context.is)
-      (context_written c.args.bank.now c.args.terms.now c.number_of.new.self _ c.number_of.new.out.items _ c.in-Context.ctx c.in-Context.t c.in_ok-t-in-Context.t
-      (c.in_ok-t-in-Context.ensures {u = tt})
-      (subst Q c.number.ensures (pushes_plain _ _ (Record.Context c.number.result c.in_ok-t-in-Context.t) refl refl bytes c.push_record.ensures.range))))
+    (context_written c.args.bank.now c.args.terms.now c.number_of.new.self _ c.number_of.new.out.items _ c.in-Context.ctx c.in-Context.t c.in_ok-t-in-Context.t
+    (c.in_ok-t-in-Context.ensures {u = tt})
+    (subst Q c.number.ensures (pushes_plain _ _ (Record.Context c.number.result c.in_ok-t-in-Context.t) refl refl bytes c.push_record.ensures.range))))
     c.push_record.ensures.bytes
 
 pub returns-in_ok-of-in-Node : goal.returns-in_ok-of-in-Node
@@ -24,8 +23,8 @@ returns-in_ok-of-in-Node c =
     let P : Kept → Type 0 = λ k. WritesKept c.args.bank.now c.args.terms.now c.number_of-in-Node-2.new.self c.args.out.now.items c.push_node.new.out.items k in
     on_ok_weaker c.push_node.result
     (λ pushes. subst P (sym c.in-Node.is)
-      (node_written c.args.bank.now c.args.terms.now c.number_of-in-Node.new.self c.number_of-in-Node-2.new.self _ c.number_of-in-Node.new.out.items c.number_of-in-Node-2.new.out.items _
-      c.in-Node.judge c.in-Node.step c.in_ok-term-in-Node.term c.in_ok-of-in-Node.of (c.in_ok-term-in-Node.ensures {u = tt}) (c.in_ok-of-in-Node.ensures {u = tt}) pushes))
+    (node_written c.args.bank.now c.args.terms.now c.number_of-in-Node.new.self c.number_of-in-Node-2.new.self _ c.number_of-in-Node.new.out.items c.number_of-in-Node-2.new.out.items _
+    c.in-Node.judge c.in-Node.step c.in_ok-term-in-Node.term c.in_ok-of-in-Node.of (c.in_ok-term-in-Node.ensures {u = tt}) (c.in_ok-of-in-Node.ensures {u = tt}) pushes))
     c.push_node.ensures
 
 pub returns-in-Entry : goal.returns-in-Entry

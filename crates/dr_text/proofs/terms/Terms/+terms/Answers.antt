@@ -1,13 +1,12 @@
-use Rattle.std.proofs.Common.{◌≡◌, ◌≢◌, ℕ, suc, List, [], ◌∷◌, ◌++◌, arith, Some, Result, Ok, Err, IfOk, OnOk, refl, ap, sym, ◌∙◌, subst}
+use Rattle.std.proofs.Common.{◌≡◌, ℕ, List, [], ◌∷◌, ◌++◌, arith, Result, Ok, Err, IfOk, OnOk, refl, ap, sym, ◌∙◌, subst}
 use Rattle.std.proofs.lemmas.Result.{on_ok_weaker}
 use Rattle.std.proofs.lemmas.Grind.{common_steps}
 use Rattle.ld_terms.specs.Tree.{Trees, Nil, ◌▸◌}
 use Rattle.ld_terms.specs.Tree as tree
 use Rattle.ld_terms.specs.Item.{Item, One, Many, IsOne, IsSmall}
 use Rattle.ld_terms.specs.Item as item
-use Rattle.ld_terms.specs.Bank.{item_at, tree_at, list_at, item_of, IsTermAt}
+use Rattle.ld_terms.specs.Bank.{tree_at, list_at, item_of}
 use Rattle.ld_terms.specs.Record.{Record}
-use Rattle.ld_terms.specs.declared.bank.TermId.{TermId}
 use Rattle.ld_terms.specs.declared.bank.Node.{Node}
 use Rattle.ld_terms.specs.declared.bank.Node.TheVariants as node
 use Rattle.dr_text.specs.declared.terms.Terms.{Terms}
@@ -36,9 +35,9 @@ number_of-returns-in-Some t c =
 pub number_of-returns : goal.number_of-returns
 number_of-returns t c =
     if_ok_three c.keep.result _
-      (λ n number at others count. numbered_last c.args.bank.now c.args.self.now c.write.new.self c.keep.new.self c.args.out.now.items c.write.new.out.items c.args.t _ n
-        c.requires.live (ap item.tree c.node.ensures.tree) (c.in_ok-write.ensures {u = tt}) number at others count)
-      c.keep.ensures.number c.keep.ensures.term c.keep.ensures.others c.keep.ensures.written
+    (λ n number at others count. numbered_last c.args.bank.now c.args.self.now c.write.new.self c.keep.new.self c.args.out.now.items c.write.new.out.items c.args.t _ n
+    c.requires.live (ap item.tree c.node.ensures.tree) (c.in_ok-write.ensures {u = tt}) number at others count)
+    c.keep.ensures.number c.keep.ensures.term c.keep.ensures.others c.keep.ensures.written
 
 pub numbers_of-returns-in_ok-map_err-in-Cons : goal.numbers_of-returns-in_ok-map_err-in-Cons
 numbers_of-returns-in_ok-map_err-in-Cons t c =
@@ -68,16 +67,16 @@ pub write-returns-in-Star : goal.write-returns-in-Star
 write-returns-in-Star t c =
     on_ok_weaker c.push_record.result
     (λ bytes. in_form c.args.bank.now _ _ _ _ c.args.node node.Star c.in-Star.is
-      (alone_written c.args.bank.now c.args.self.now _ _ tree.Star Record.Star tt (pushes_plain _ _ Record.Star refl refl bytes c.push_record.ensures.range)
-      (λ s. tt) (λ s. tt) (λ s. refl)))
+    (alone_written c.args.bank.now c.args.self.now _ _ tree.Star Record.Star tt (pushes_plain _ _ Record.Star refl refl bytes c.push_record.ensures.range)
+    (λ s. tt) (λ s. tt) (λ s. refl)))
     c.push_record.ensures.bytes
 
 pub write-returns-in-Box_ : goal.write-returns-in-Box_
 write-returns-in-Box_ t c =
     on_ok_weaker c.push_record-in-Box_.result
     (λ bytes. in_form c.args.bank.now _ _ _ _ c.args.node node.Box_ c.in-Box_.is
-      (alone_written c.args.bank.now c.args.self.now _ _ tree.Box Record.Box tt (pushes_plain _ _ Record.Box refl refl bytes c.push_record-in-Box_.ensures.range)
-      (λ s. tt) (λ s. tt) (λ s. refl)))
+    (alone_written c.args.bank.now c.args.self.now _ _ tree.Box Record.Box tt (pushes_plain _ _ Record.Box refl refl bytes c.push_record-in-Box_.ensures.range)
+    (λ s. tt) (λ s. tt) (λ s. refl)))
     c.push_record-in-Box_.ensures.bytes
 
 pub write-returns-in-Var : goal.write-returns-in-Var
@@ -85,9 +84,9 @@ write-returns-in-Var t c =
     let small = small_in c.args.bank.now c.args.node (node.Var c.in-Var.index) c.in-Var.is c.requires.small in
     on_ok_weaker c.push_record-in-Var.result
     (λ bytes. in_form c.args.bank.now _ _ _ _ c.args.node (node.Var c.in-Var.index) c.in-Var.is
-      (alone_written c.args.bank.now c.args.self.now _ _ (tree.Var c.in-Var.index) (Record.Var c.in-Var.index) tt
-      (pushes_plain _ _ (Record.Var c.in-Var.index) refl refl bytes c.push_record-in-Var.ensures.range)
-      (λ s. tt) (λ s. small) (λ s. refl)))
+    (alone_written c.args.bank.now c.args.self.now _ _ (tree.Var c.in-Var.index) (Record.Var c.in-Var.index) tt
+    (pushes_plain _ _ (Record.Var c.in-Var.index) refl refl bytes c.push_record-in-Var.ensures.range)
+    (λ s. tt) (λ s. small) (λ s. refl)))
     c.push_record-in-Var.ensures.bytes
 
 pub write-returns-in_ok-f-in-App : goal.write-returns-in_ok-f-in-App
@@ -97,9 +96,9 @@ write-returns-in_ok-f-in-App t c =
     let r = Record.App c.in_ok-f-in-App.f c.in_ok-f-in-App.u in
     on_ok_weaker c.push_record-in-App.result
     (λ bytes. in_form c.args.bank.now _ _ _ _ c.args.node n c.in-App.is
-      (pair_written c.args.bank.now c.args.self.now c.numbers_of_two.new.self _ _ _ (tree_at c.args.bank.now c.in-App.f) (tree_at c.args.bank.now c.in-App.u)
-      c.in_ok-f-in-App.f c.in_ok-f-in-App.u tree.App r (λ x p q. (p, q)) (λ x h. h) (λ x. refl) (λ env h. h) tt small (c.in_ok-f-in-App.ensures {u = tt})
-      (pushes_plain _ _ r refl refl bytes c.push_record-in-App.ensures.range)))
+    (pair_written c.args.bank.now c.args.self.now c.numbers_of_two.new.self _ _ _ (tree_at c.args.bank.now c.in-App.f) (tree_at c.args.bank.now c.in-App.u)
+    c.in_ok-f-in-App.f c.in_ok-f-in-App.u tree.App r (λ x p q. (p, q)) (λ x h. h) (λ x. refl) (λ env h. h) tt small (c.in_ok-f-in-App.ensures {u = tt})
+    (pushes_plain _ _ r refl refl bytes c.push_record-in-App.ensures.range)))
     c.push_record-in-App.ensures.bytes
 
 pub write-returns-in_ok-a-in-Lam : goal.write-returns-in_ok-a-in-Lam
@@ -109,9 +108,9 @@ write-returns-in_ok-a-in-Lam t c =
     let r = Record.Lam c.in_ok-a-in-Lam.a c.in_ok-a-in-Lam.m in
     on_ok_weaker c.push_record-in-Lam.result
     (λ bytes. in_form c.args.bank.now _ _ _ _ c.args.node n c.in-Lam.is
-      (pair_written c.args.bank.now c.args.self.now c.numbers_of_two-in-Lam.new.self _ _ _ (tree_at c.args.bank.now c.in-Lam.a) (tree_at c.args.bank.now c.in-Lam.m)
-      c.in_ok-a-in-Lam.a c.in_ok-a-in-Lam.m tree.Lam r (λ x p q. (p, q)) (λ x h. h) (λ x. refl) (λ env h. h) tt small (c.in_ok-a-in-Lam.ensures {u = tt})
-      (pushes_plain _ _ r refl refl bytes c.push_record-in-Lam.ensures.range)))
+    (pair_written c.args.bank.now c.args.self.now c.numbers_of_two-in-Lam.new.self _ _ _ (tree_at c.args.bank.now c.in-Lam.a) (tree_at c.args.bank.now c.in-Lam.m)
+    c.in_ok-a-in-Lam.a c.in_ok-a-in-Lam.m tree.Lam r (λ x p q. (p, q)) (λ x h. h) (λ x. refl) (λ env h. h) tt small (c.in_ok-a-in-Lam.ensures {u = tt})
+    (pushes_plain _ _ r refl refl bytes c.push_record-in-Lam.ensures.range)))
     c.push_record-in-Lam.ensures.bytes
 
 pub write-returns-in_ok-a-in-Pi : goal.write-returns-in_ok-a-in-Pi
@@ -121,9 +120,9 @@ write-returns-in_ok-a-in-Pi t c =
     let r = Record.Pi c.in_ok-a-in-Pi.a c.in_ok-a-in-Pi.b in
     on_ok_weaker c.push_record-in-Pi.result
     (λ bytes. in_form c.args.bank.now _ _ _ _ c.args.node n c.in-Pi.is
-      (pair_written c.args.bank.now c.args.self.now c.numbers_of_two-in-Pi.new.self _ _ _ (tree_at c.args.bank.now c.in-Pi.a) (tree_at c.args.bank.now c.in-Pi.b)
-      c.in_ok-a-in-Pi.a c.in_ok-a-in-Pi.b tree.Pi r (λ x p q. (p, q)) (λ x h. h) (λ x. refl) (λ env h. h) tt small (c.in_ok-a-in-Pi.ensures {u = tt})
-      (pushes_plain _ _ r refl refl bytes c.push_record-in-Pi.ensures.range)))
+    (pair_written c.args.bank.now c.args.self.now c.numbers_of_two-in-Pi.new.self _ _ _ (tree_at c.args.bank.now c.in-Pi.a) (tree_at c.args.bank.now c.in-Pi.b)
+    c.in_ok-a-in-Pi.a c.in_ok-a-in-Pi.b tree.Pi r (λ x p q. (p, q)) (λ x h. h) (λ x. refl) (λ env h. h) tt small (c.in_ok-a-in-Pi.ensures {u = tt})
+    (pushes_plain _ _ r refl refl bytes c.push_record-in-Pi.ensures.range)))
     c.push_record-in-Pi.ensures.bytes
 
 pub write-returns-in_ok-arguments-in-Const : goal.write-returns-in_ok-arguments-in-Const
@@ -133,6 +132,6 @@ write-returns-in_ok-arguments-in-Const t c =
     let P : List ℕ → Type 0 = λ ns. Pushes c.numbers_of.new.out.items c.push_instance.new.out.items (Record.Const c.in-Const.k ns) in
     on_ok_weaker c.push_instance.result
     (λ pushes. in_form c.args.bank.now _ _ _ _ c.args.node n c.in-Const.is
-      (instance_written c.args.bank.now c.args.self.now c.numbers_of.new.self _ _ _ c.in-Const.k (list_at c.args.bank.now c.in-Const.us)
-      c.in_ok-arguments-in-Const.arguments.items small (c.in_ok-arguments-in-Const.ensures {u = tt}) (subst P c.deref.ensures.value pushes)))
+    (instance_written c.args.bank.now c.args.self.now c.numbers_of.new.self _ _ _ c.in-Const.k (list_at c.args.bank.now c.in-Const.us)
+    c.in_ok-arguments-in-Const.arguments.items small (c.in_ok-arguments-in-Const.ensures {u = tt}) (subst P c.deref.ensures.value pushes)))
     c.push_instance.ensures

@@ -1,4 +1,4 @@
-use Rattle.std.proofs.Common.{◌≡◌, ℕ, Option, Some, None, IfSome, refl, sym, subst}
+use Rattle.std.proofs.Common.{ℕ, Option, IfSome, refl, sym, subst}
 use Rattle.std.proofs.lemmas.Result.{on_ok_weaker}
 use Rattle.ld_terms.specs.Record.{Record}
 use Rattle.ld_record.specs.Kept.{known_of}
@@ -17,9 +17,9 @@ returns-in-Some c =
     let Q : ℕ → Type 0 = λ n. Pushes c.records.new.out.items c.push_record.new.out.items (Record.End n) in
     on_ok_weaker c.push_record.result
     (λ bytes. subst A (sym c.in-Some.is)
-      (appends_end c.args.bank.now c.args.deriv.now c.args.self.now c.records.new.self c.args.out.now.items c.records.new.out.items c.push_record.new.out.items c.in-Some.j
-      c.in_ok-records.ensures.carries c.in_ok-records.ensures.written (subst K c.in-Some.is c.requires.ended)
-      (subst Q c.number.ensures (pushes_plain _ _ (Record.End c.number.result) refl refl bytes c.push_record.ensures.range))))
+    (appends_end c.args.bank.now c.args.deriv.now c.args.self.now c.records.new.self c.args.out.now.items c.records.new.out.items c.push_record.new.out.items c.in-Some.j
+    c.in_ok-records.ensures.carries c.in_ok-records.ensures.written (subst K c.in-Some.is c.requires.ended)
+    (subst Q c.number.ensures (pushes_plain _ _ (Record.End c.number.result) refl refl bytes c.push_record.ensures.range))))
     c.push_record.ensures.bytes
 
 pub returns-in-None : goal.returns-in-None
@@ -27,4 +27,4 @@ returns-in-None c =
     let A : Option JudgeId → Type 0 = λ ended. Appends c.args.bank.now c.args.deriv.now c.args.self.now c.records.new.self c.args.out.now.items c.records.new.out.items ended in
     subst A (sym c.in-None.is)
     (appends_all c.args.bank.now c.args.deriv.now c.args.self.now c.records.new.self c.args.out.now.items c.records.new.out.items
-      c.in_ok-records.ensures.carries c.in_ok-records.ensures.written)
+    c.in_ok-records.ensures.carries c.in_ok-records.ensures.written)

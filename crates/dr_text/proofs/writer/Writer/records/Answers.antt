@@ -1,4 +1,4 @@
-use Rattle.std.proofs.Common.{◌≡◌, ℕ, length, refl, ◌∙◌, subst, arith}
+use Rattle.std.proofs.Common.{◌≡◌, ℕ, length, refl, subst, arith}
 use Rattle.dr_text.specs.Written.{Carries}
 use Rattle.dr_text.proofs.Carrying.{fits_of, has_terms, carries_none, carries_more}
 use Rattle.dr_text.proofs.writer.Writer.records.Goals as goal
