@@ -4,6 +4,13 @@ use Rattle.std.specs.List.{position_or_len}
 use Rattle.std.specs.Str.{bytes_eq}
 use Rattle.std.proofs.lemmas.Slice.Eq.{bytes_eq-Decides}
 use Rattle.std.proofs.lemmas.Bool.Decides.{nat_tests}
+use Rattle.ld_terms.specs.Entry.{Entry, Env}
+use Rattle.ld_env.specs.Entries.{env_of}
+use Rattle.ld_env.specs.Named.{Named}
+use Rattle.ld_env.specs.Named as named
+use Rattle.ld_env.proofs.CallerLemmas.{names-env_of}
+use Rattle.ld_infer.specs.Standing.{Standing, env}
+use Rattle.book_top.specs.Verdict.{names_of}
 
 passed : (b : Bool) (m : ℕ) → b ≡ true → cond (not b) (1 + m) 0 ≡ 0
 passed true m e = refl
@@ -46,3 +53,7 @@ pub position_of : (x : List ℕ) (names : List (List ℕ)) (r : Option ℕ)
 position_of x names None distinct absent = sym (at_end _ _ (none x names (λ k l e. absent (k, l, e))))
 position_of x names (Some k) distinct at =
     sym (before_end _ _ k (first x names k at (λ j q. distinct j k x q at)) (within x names k at))
+
+-- the names of a theory's entries
+pub theory_names : (s : Standing) (entries : List Named) → entries ≡ s.entries → env_of s.items s.entries ≡ env s → named.names_of entries ≡ names_of (env s)
+theory_names s entries same trees = ap named.names_of same ∙ sym (names-env_of s.items s.entries) ∙ ap names_of trees

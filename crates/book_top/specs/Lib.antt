@@ -7,3 +7,4 @@ pub mod Desk
 pub mod Top
 pub mod Built
 pub mod Judged
+pub mod Chunks

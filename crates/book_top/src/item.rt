@@ -143,7 +143,7 @@ fn judge_terms(
 ) -> Result<(), ItemStop>
     requires some { 0 < length name.now }
     requires short { length name.now ≤ 255 }
-    requires free { Contains (names_of (env theory.old)) name.now → ⊥ }
+    requires free { Contains (names_in theory.old.entries) name.now → ⊥ }
     requires are { AreRead (names_of (env theory.old)) terms }
     requires flat { context theory.old ≡ Nil }
     requires room { length (env theory.old) + 1 < 2 ^ 32 }
@@ -166,7 +166,7 @@ fn judge_primitive(
 ) -> Result<(), ItemStop>
     requires some { 0 < length name.now }
     requires short { length name.now ≤ 255 }
-    requires free { Contains (names_of (env theory.old)) name.now → ⊥ }
+    requires free { Contains (names_in theory.old.entries) name.now → ⊥ }
     requires read { IsOk (tree_of (names_of (env theory.old)) (view of)) }
     requires flat { context theory.old ≡ Nil }
     requires room { length (env theory.old) + 1 < 2 ^ 32 }
@@ -194,7 +194,7 @@ fn judge_line(
 ) -> Result<(), ItemStop>
     requires some { 0 < length name.now }
     requires short { length name.now ≤ 255 }
-    requires free { Contains (names_of (env theory.old)) name.now → ⊥ }
+    requires free { Contains (names_in theory.old.entries) name.now → ⊥ }
     requires read_body { IsOk (tree_of (names_of (env theory.old)) (view body)) }
     requires read_type { IsOk (tree_of (names_of (env theory.old)) (view of)) }
     requires flat { context theory.old ≡ Nil }

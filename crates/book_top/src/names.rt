@@ -35,6 +35,13 @@ pub fn find(env: &Env, name: &[u8]) -> Option<u32>
     env.find(name)
 }
 
+// The number of the entry of a name in a theory.
+fn entry_named(theory: &Theory, name: &[u8]) -> Option<u32>
+    ensures { result ≡ position (bytes_eq name.now) (names_of (env theory.now)) }
+{
+    find(theory.env(), name)
+}
+
 /// Looks up the names of a term in text order, and refuses the first that no entry has, or a form that is not
 /// built.
 pub fn check_names(env: &Env, tree: Tree) -> Result<(), TextFault>
@@ -65,7 +72,7 @@ pub fn build(theory: &mut Theory, tree: Tree) -> Result<TermId, TermFault>
     match tree.form {
         Form::Star => theory.add(Node::Star),
         Form::Box_ => theory.add(Node::Box_),
-        Form::Name(name) => match find(theory.env(), name.as_bytes()) {
+        Form::Name(name) => match entry_named(theory, name.as_bytes()) {
             Some(entry) => instance(theory, entry),
             None => unreachable!(),
         },

@@ -1,12 +1,13 @@
 use Rattle.std.proofs.Common.{rules, sym, refl}
+use Rattle.book_top.proofs.Finding.{theory_names}
 use Rattle.book_top.proofs.Judging.{unread_item, item_judged}
 use Rattle.book_top.proofs.item.judge_item.Goals as goal
 
 pub returns-in_err-terms-clause-answer : goal.returns-in_err-terms-clause-answer
 returns-in_err-terms-clause-answer c =
-    unread_item c.args.theory.now _ _ _ c.from_residual.result c.env.ensures.names (c.in_err-terms.ensures c.args.text.now refl) c.from_residual.ensures.1
+    unread_item c.args.theory.now _ _ _ c.from_residual.result (theory_names c.args.theory.now c.env.result.now c.env.ensures.entries c.env.ensures.trees) (c.in_err-terms.ensures c.args.text.now refl) c.from_residual.ensures.1
 
 pub returns-clause-answer : goal.returns-clause-answer
 returns-clause-answer c =
     item_judged c.args.theory.now c.judge_terms.new.theory c.args.text.now c.args.item.now c.in_ok-terms.terms _ _ c.judge_terms.result
-    c.env.ensures.names refl (c.in_ok-terms.ensures c.args.text.now refl) c.judge_terms.ensures.answer
+    (theory_names c.args.theory.now c.env.result.now c.env.ensures.entries c.env.ensures.trees) refl (c.in_ok-terms.ensures c.args.text.now refl) c.judge_terms.ensures.answer

@@ -1,0 +1,35 @@
+-- What the writing of a chunk does to the file.
+use Rattle.std.specs.Prelude.{◌≡◌, ℕ, List, ◌++◌, length, take, Some, IsTrue, Option, Result, Ok, Err}
+use Rattle.ld_terms.specs.Item.{Item}
+use Rattle.ld_record.specs.declared.record.JudgeId.{JudgeId}
+use Rattle.ld_record.specs.declared.record.Kept.{Kept}
+use Rattle.fb_base.specs.Desk.{Seen, content_of}
+use Rattle.fb_base.specs.declared.desk.DeskFault.{DeskFault}
+use Rattle.fb_base.specs.declared.desk.DeskFault.TheVariants as desk
+use Rattle.dr_text.specs.declared.writer.Writer.{Writer}
+use Rattle.dr_text.specs.Written.{IsWritten, IsContent}
+
+-- the file has become longer by these bytes
+pub record Lengthens (old new : Seen) (bytes : List ℕ) : Type 0 where
+  pub file : new.files old.target ≡ Some (content_of old old.target ++ bytes)
+
+-- The file has become longer by a front of what would make it this.
+pub record LengthensPartly (old new : Seen) (Whole : List ℕ → Type 0) : Type 0 where
+  pub next : List ℕ
+  pub n : ℕ
+  pub file : new.files old.target ≡ Some (content_of old old.target ++ take n next)
+  pub whole : Whole (content_of old old.target ++ next)
+
+-- the file has become longer and is this
+pub record LengthensTo (old new : Seen) (Whole : List ℕ → Type 0) : Type 0 where
+  pub next : List ℕ
+  pub file : new.files old.target ≡ Some (content_of old old.target ++ next)
+  pub whole : Whole (content_of old old.target ++ next)
+
+-- Behind what was written the chunk is written, or on a failing desk a front of it.
+abbrev pub WritesChunk : List Item → List Kept → (before after : Writer) → Option JudgeId → (old new : Seen) → Result (Unit {0}) DeskFault → Type 0
+WritesChunk items kept before after ended old new (Ok u) =
+    IsTrue old.tells_files → IsWritten items kept before (content_of old old.target) → LengthensTo old new (IsContent items kept after ended)
+WritesChunk items kept before after ended old new (Err desk.Failed) =
+    IsTrue old.tells_files → IsWritten items kept before (content_of old old.target) → LengthensPartly old new (IsContent items kept after ended)
+WritesChunk items kept before after ended old new (Err desk.Memory) = new ≡ old
