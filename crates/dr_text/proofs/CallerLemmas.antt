@@ -1,14 +1,13 @@
 -- For the callers of a writer: what is written stays written as terms and records are added.
-use Rattle.std.proofs.Common.{◌≡◌, ℕ, zero, suc, List, [], ◌∷◌, ◌++◌, length, take, ap, sym, ◌∙◌, subst, arith}
+use Rattle.std.proofs.Common.{ℕ, zero, suc, List, [], ◌∷◌, length, take, ap, sym, ◌∙◌, arith}
 use Rattle.std.proofs.lemmas.List.{take-take}
-use Rattle.ld_terms.specs.Tree.{Tree}
 use Rattle.ld_terms.specs.Item.{Item}
 use Rattle.ld_terms.specs.Item as item
 use Rattle.ld_terms.specs.Bank.{Extends}
-use Rattle.ld_terms.specs.Known.{Known, nothing, Judgement}
+use Rattle.ld_terms.specs.Known.{Known, nothing}
 use Rattle.ld_terms.specs.Record.{State, start, final}
 use Rattle.ld_record.specs.declared.record.Kept.{Kept}
-use Rattle.ld_record.specs.Kept.{known_of, known_after, with_kept, AreSound, IsSound, Begins}
+use Rattle.ld_record.specs.Kept.{known_of, with_kept, AreSound, IsSound, Begins}
 use Rattle.ld_record.proofs.Growing.{known_later}
 use Rattle.ld_record.proofs.Keeping.{begins_no_longer}
 use Rattle.dr_text.specs.declared.terms.Terms.{Terms}

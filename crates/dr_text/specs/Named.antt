@@ -1,5 +1,5 @@
 -- Trees whose instances are of entries that are there, with as many arguments as those have parameters.
-use Rattle.std.specs.Prelude.{◌≡◌, ℕ, ◌<◌, ⊤, length}
+use Rattle.std.specs.Prelude.{◌≡◌, ◌<◌, ⊤, length}
 use Rattle.ld_terms.specs.Tree.{Tree, Star, Box, Var, App, Lam, Pi, Const, Trees, Nil, ◌▸◌, count}
 use Rattle.ld_terms.specs.Entry.{Env}
 use Rattle.ld_terms.specs.Record.{params_at}
