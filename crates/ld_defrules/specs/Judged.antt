@@ -2,11 +2,19 @@
 use Rattle.std.specs.Prelude.{◌≡◌, ℕ, ◌+◌, Bool, true, false, List, [], ◌∷◌, ⊤, Result, Ok, Err}
 use Rattle.ld_terms.specs.Tree.{Tree, Star, Box, Var, App, Lam, Pi, Const, Nil, count, Tree-discrete}
 use Rattle.ld_terms.specs.Entry.{Entry, Env, Defined, Primitive}
+use Rattle.ld_infer.specs.declared.failure.RuleName.{RuleName}
 use Rattle.ld_infer.specs.declared.failure.RuleName.TheVariants.{Def, DefPrim}
+use Rattle.ld_infer.specs.declared.failure.InferFault.{InferFault}
+use Rattle.ld_infer.specs.declared.failure.InferFault.TheVariants as infer
 use Rattle.ld_infer.specs.declared.failure.PathStep.TheVariants.{Of, Body}
 use Rattle.ld_infer.specs.Reading.{Answer, Gives, Refuses, Refusal, NotSame, reading, sort_reading, within}
 use Rattle.ld_infer.specs.Reading as answer
-use Rattle.ld_infer.specs.Standing.{Standing, env, Continues, AddsEntry}
+use Rattle.ld_terms.specs.Item.{Item}
+use Rattle.ld_terms.specs.Bank.{tree_at}
+use Rattle.ld_terms.specs.declared.bank.TermId.{TermId}
+use Rattle.ld_record.specs.declared.record.JudgeId.{JudgeId}
+use Rattle.ld_record.specs.Growth.{Knows}
+use Rattle.ld_infer.specs.Standing.{Standing, known, here, KnowsSort, AddsEntry}
 use Rattle.ld_infer.specs.Infers.{refusal_of}
 use Rattle.ld_defrules.specs.declared.ItemFault.{ItemFault}
 use Rattle.ld_defrules.specs.declared.ItemFault.TheVariants as fault
@@ -47,9 +55,17 @@ and_then Accepted b = b
 and_then (Refused r) b = Refused r
 and_then NotBuilt b = NotBuilt
 
+-- the stated type of an item has a sort, for which a rule asks as its second premise
+abbrev pub type_judged : Env → (depth : ℕ) → RuleName → (type : Tree) → Judged
+type_judged env d rule type = accepted_by (within Of (sort_reading env d rule 2 type))
+
+-- the reading of a line's body
+abbrev pub body_reading : Env → (depth : ℕ) → (body : Tree) → Answer
+body_reading env d body = within Body (reading env d Def 2 body)
+
 -- a primitive: its type has a sort
 abbrev pub primitive_judged : Env → (depth : ℕ) → (type : Tree) → Judged
-primitive_judged env d type = accepted_by (within Of (sort_reading env d DefPrim 2 type))
+primitive_judged env d type = type_judged env d DefPrim type
 
 abbrev pub same_or_compared : Bool → Judged
 same_or_compared true = Accepted
@@ -73,8 +89,8 @@ has_box d answer.NotBuilt = NotBuilt
 
 -- a line: its stated type has a sort unless it is box itself, and its body has the stated type
 abbrev pub line_judging : Env → (depth : ℕ) → (box : Bool) → (body type : Tree) → Judged
-line_judging env d true body type = has_box d (within Body (reading env d Def 2 body))
-line_judging env d false body type = and_then (accepted_by (within Of (sort_reading env d Def 2 type))) (has_type type (within Body (reading env d Def 2 body)))
+line_judging env d true body type = has_box d (body_reading env d body)
+line_judging env d false body type = and_then (type_judged env d Def type) (has_type type (body_reading env d body))
 
 abbrev pub line_judged : Env → (depth : ℕ) → (body type : Tree) → Judged
 line_judged env d body type = line_judging env d (is_box type) body type
@@ -85,10 +101,39 @@ primitive_of name type = record { name = name; params = Nil; body = Primitive; t
 abbrev pub line_of : List ℕ → (body type : Tree) → Entry
 line_of name body type = record { name = name; params = Nil; body = Defined body; type = type }
 
+-- A fault is what the rules answer; want of memory is free.
+abbrev pub FaultOf : List Item → Judged → ItemFault → Type 0
+FaultOf items j fault.NameTaken = ⊥
+FaultOf items j (fault.Refused f) = j ≡ Refused (refusal_of items f)
+FaultOf items j fault.NotBuilt = j ≡ NotBuilt
+FaultOf items j fault.Memory = ⊤
+
+-- the rules accept, and the judgement for a sort is kept
+pub record HasSort (old new : Standing) (j : Judged) (t : TermId) (judge : JudgeId) : Type 0 where
+  pub accepted : j ≡ Accepted
+  pub knows : KnowsSort new judge (tree_at old.items t)
+
+-- the rules accept, and the judgement of the term and the type is kept
+pub record HasType (old new : Standing) (j : Judged) (t type : TermId) (judge : JudgeId) : Type 0 where
+  pub accepted : j ≡ Accepted
+  pub knows : Knows (known new) judge (here old (tree_at old.items t) (tree_at old.items type))
+
+-- the refusal of a type that is found where another is wanted
+abbrev pub IsNotBox : List Item → (found wanted : TermId) → ItemFault → Type 0
+IsNotBox items found wanted (fault.Refused f) =
+    refusal_of items f ≡ record { rule = Def; premise = 2; path = Body ∷ []; depth = 0; reason = NotSame (tree_at items found) (tree_at items wanted) (tree_at items found) (tree_at items wanted) 0 }
+IsNotBox items found wanted fault.Memory = ⊤
+IsNotBox items found wanted _ = ⊥
+
 -- An item is accepted, and its entry is added; or it is refused as the rules answer. A name that is taken is told apart.
 abbrev pub Judges : (old new : Standing) → Judged → Entry → Result ℕ ItemFault → Type 0
 Judges old new j e (Ok k) = (j ≡ Accepted) × AddsEntry old new e
 Judges old new j e (Err fault.NameTaken) = ⊤
-Judges old new j e (Err (fault.Refused f)) = j ≡ Refused (refusal_of new.items f)
-Judges old new j e (Err fault.NotBuilt) = j ≡ NotBuilt
+Judges old new j e (Err (fault.Refused f)) = FaultOf new.items j (fault.Refused f)
+Judges old new j e (Err fault.NotBuilt) = FaultOf new.items j fault.NotBuilt
 Judges old new j e (Err fault.Memory) = ⊤
+
+abbrev pub item_fault : InferFault → ItemFault
+item_fault (infer.Refused f) = fault.Refused f
+item_fault infer.NotBuilt = fault.NotBuilt
+item_fault infer.Memory = fault.Memory

@@ -1,5 +1,5 @@
 -- What a caller cites of an environment: its entries in trees, and what stays as terms and entries are added.
-use Rattle.std.proofs.Common.{◌≡◌, ◌≢◌, ◌<◌, ◌-◌, ℕ, zero, suc, List, [], ◌∷◌, ◌++◌, length, map, get_or, take, Option, None, Some, slice_get, Contains, All, refl, sym, ap, subst, ◌∙◌, arith}
+use Rattle.std.proofs.Common.{◌≡◌, ◌≢◌, ◌<◌, ◌-◌, ℕ, zero, suc, List, [], ◌∷◌, ◌++◌, length, map, get_or, take, Option, None, Some, slice_get, Contains, All, refl, ap, subst, ◌∙◌, arith}
 use Rattle.std.proofs.lemmas.List.Elements.{All-cons, All-head, All-tail, All-push, All-take}
 use Rattle.std.proofs.lemmas.List.{length_push}
 use Rattle.ld_terms.specs.Tree.{Tree, Trees, Nil}
@@ -54,8 +54,8 @@ fresh_at : (items : List Item) (env : List Named) (name : List ℕ) → ((k : �
 fresh_at items [] name free = λ k d l. absurd (omega arith)
 fresh_at items (n ∷ env) name free =
     All-cons (λ e. e.name ≢ name) (entry_of items n) (env_of items env)
-      (λ e. free 0 (omega arith) e)
-      (fresh_at items env name (λ k l e. free (suc k) (omega arith) e))
+    (λ e. free 0 (omega arith) e)
+    (fresh_at items env name (λ k l e. free (suc k) (omega arith) e))
 
 pub is_fresh : (items : List Item) (env : List Named) (name : List ℕ) → (Contains (names_of env) name → ⊥) → IsFresh name (env_of items env)
 is_fresh items env name free = fresh_at items env name (λ k l e. free (k, l, e))

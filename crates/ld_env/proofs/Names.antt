@@ -1,5 +1,5 @@
 -- The names of a map's entries, and what its look-ups say of them.
-use Rattle.std.proofs.Common.{◌≡◌, ◌<◌, ℕ, zero, suc, Bool, true, false, cond, List, [], ◌∷◌, ◌++◌, length, map, get_or, Option, None, Some, slice_get, position, is_some, MatchOption, Contains, refl, sym, ap, subst, ◌∙◌, true≢false, arith, inl, inr}
+use Rattle.std.proofs.Common.{◌≡◌, ◌<◌, ℕ, zero, suc, Bool, true, false, cond, List, [], ◌∷◌, ◌++◌, length, get_or, Option, None, Some, slice_get, position, is_some, MatchOption, Contains, refl, sym, ap, ◌∙◌, true≢false, arith, inl, inr}
 use Rattle.std.specs.Global.{Vec}
 use Rattle.std.specs.Cmp.Lexicographic.{pointwise}
 use Rattle.std.specs.Prelude.{nat_eq}
@@ -11,7 +11,7 @@ use Rattle.std.proofs.lemmas.List.Quantifiers.{position-Some}
 use Rattle.std.proofs.lemmas.Map.Keys.{apart_from_distinct}
 use Rattle.std.proofs.lemmas.Option.{slice_get_within, slice_get_cases, get_or_from_slice_get}
 use Rattle.ld_env.specs.declared.env.Entry.{Entry}
-use Rattle.ld_env.specs.Named.{Named, named, named_of, names_of, entries_of, AreNamesDistinct}
+use Rattle.ld_env.specs.Named.{named, named_of, names_of, entries_of, AreNamesDistinct}
 
 bool_cases : {C : Type 0} (b : Bool) → (b ≡ true → C) → (b ≡ false → C) → C
 bool_cases true passes fails = passes refl
@@ -29,10 +29,6 @@ name_from_test name key h = (slice_eq-Decides Decides-eqb name key.items _ refl)
 
 pub test_from_name : (name : List ℕ) (key : Vec ℕ) → name ≡ key.items → is_name name key ≡ true
 test_from_name name key e = (slice_eq-Decides Decides-eqb name key.items _ refl).1 e
-
-pub length-named_of : (ps : Pairs) → length (named_of ps) ≡ length ps
-length-named_of [] = refl
-length-named_of (p ∷ ps) = ap suc (length-named_of ps)
 
 pub named_of-push : (ps : Pairs) (p : Vec ℕ × Entry) → named_of (ps ++ p ∷ []) ≡ named_of ps ++ named p.0.items p.1 ∷ []
 named_of-push [] p = refl
@@ -57,8 +53,8 @@ found_at name [] none k l e = omega arith
 found_at name (p ∷ ps) none zero l e = true≢false (sym (ap is_some (head_found name p ps (test_from_name name p.0 (sym e)))) ∙ none)
 found_at name (p ∷ ps) none (suc k) l e =
     bool_cases (is_name name p.0)
-      (λ h. true≢false (sym (ap is_some (head_found name p ps h)) ∙ none))
-      (λ h. found_at name ps (sym (ap is_some (tail_only name p ps h)) ∙ none) k (omega arith) e)
+    (λ h. true≢false (sym (ap is_some (head_found name p ps h)) ∙ none))
+    (λ h. found_at name ps (sym (ap is_some (tail_only name p ps h)) ∙ none) k (omega arith) e)
 
 pub absent : (name : List ℕ) (ps : Pairs) → is_some (lookup (is_name name) ps) ≡ false → Contains (names_of (named_of ps)) name → ⊥
 absent name ps none h = found_at name ps none h.0 h.1 h.2
@@ -68,8 +64,8 @@ pub missing : (name : List ℕ) (ps : Pairs) → (Contains (names_of (named_of p
 missing name [] free = refl
 missing name (p ∷ ps) free =
     bool_cases (is_name name p.0)
-      (λ h. absurd (free (0, omega arith, sym (name_from_test name p.0 h))))
-      (λ h. tail_only name p ps h ∙ missing name ps (λ c. free (suc c.0, omega (arith, c.1), c.2)))
+    (λ h. absurd (free (0, omega arith, sym (name_from_test name p.0 h))))
+    (λ h. tail_only name p ps h ∙ missing name ps (λ c. free (suc c.0, omega (arith, c.1), c.2)))
 
 -- the key at the place of a name
 pub record HasKey (ps : Pairs) (k : ℕ) (name : List ℕ) : Type 0 where

@@ -1,5 +1,5 @@
 -- What kept entries are in trees, over the terms of a bank.
-use Rattle.std.specs.Prelude.{ℕ, ◌≡◌, List, map, Option, None, Some, All}
+use Rattle.std.specs.Prelude.{◌≡◌, List, map, Option, None, Some, All}
 use Rattle.ld_terms.specs.Tree.{Nil}
 use Rattle.ld_terms.specs.Entry.{Body, Defined, Primitive, Env, Entry as TreeEntry}
 use Rattle.ld_terms.specs.Item.{Item}

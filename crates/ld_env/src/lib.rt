@@ -2,5 +2,7 @@
 #![tactic(auto)]
 
 mod env;
+#[cfg(test)]
+mod tests;
 
 pub use env::{Entry, Env, EnvFault};

@@ -1,2 +1,3 @@
 pub mod Theories
 pub mod Going
+pub mod Inferring

@@ -1,7 +1,8 @@
 -- What a theory keeps true, as its parts change.
-use Rattle.std.proofs.Common.{◌≡◌, ◌<◌, ◌≤◌, ◌+◌, ◌-◌, ◌^◌, ◌++◌, ◌∷◌, [], ℕ, zero, suc, List, length, map, take, get_or, set, refl, ap, sym, ◌∙◌, subst, arith, inl, inr, ◌⊎◌, ◌≢◌}
+use Rattle.std.proofs.Common.{◌≡◌, ◌<◌, ◌≤◌, ◌+◌, ◌-◌, ◌^◌, ◌++◌, ◌∷◌, [], ℕ, zero, suc, List, length, map, take, get_or, set, refl, ap, sym, ◌∙◌, subst, arith, inl, inr, ◌⊎◌, ◌≢◌, Some, slice_get}
 use Rattle.std.proofs.lemmas.List.{map-append, get_or_append_left, get_or_at, length_push, length-map, length-set, length-take, get_or-set_other, get_or-set_same, get_or-take}
 use Rattle.std.proofs.Math.ListN.{get_or-map}
+use Rattle.std.proofs.lemmas.Option.{slice_get-get_or}
 use Rattle.std.proofs.lemmas.Bool.{cases_lt}
 use Rattle.ld_terms.specs.Tree.{Tree, Trees, Nil, Star, Box, ◌▸◌, count}
 use Rattle.ld_terms.specs.Item.{Item, One}
@@ -12,7 +13,7 @@ use Rattle.ld_terms.specs.Known.{Known, Judgement, nothing, context_at, judgemen
 use Rattle.ld_env.specs.Named.{Named}
 use Rattle.ld_env.specs.Entries.{env_of, entry_of, IsLiveEntry, AreLive}
 use Rattle.ld_env.specs.Named.{named as with_name}
-use Rattle.ld_env.proofs.CallerLemmas.{env_of-later, live-later, env_of-append, live-push}
+use Rattle.ld_env.proofs.CallerLemmas.{env_of-later, live-later, env_of-append, live-push, length-env_of}
 use Rattle.ld_record.specs.declared.record.JudgeId.{JudgeId}
 use Rattle.ld_record.specs.declared.record.CtxId.{CtxId}
 use Rattle.ld_record.specs.declared.record.Kept.{Kept}
@@ -144,8 +145,8 @@ pub levels_take : (known : Known) (levels : List Level) (n : ℕ) → AreLevels 
 levels_take known levels n h some within = record {
   some = omega (arith, length-take n levels);
   each = λ i below.
-    let P : Level → Type 0 = λ x. IsLevel known i x in
-    subst P (sym (get_or-take n levels i no_level (omega (arith, below, length-take n levels)))) (h.each i (omega (arith, below, length-take n levels)));
+      let P : Level → Type 0 = λ x. IsLevel known i x in
+      subst P (sym (get_or-take n levels i no_level (omega (arith, below, length-take n levels)))) (h.each i (omega (arith, below, length-take n levels)));
 }
 
 pub contexts_of-push : (levels : List Level) (l : Level) → contexts_of (levels ++ l ∷ []) ≡ contexts_of levels ++ l.ctx ∷ []
@@ -202,3 +203,73 @@ theory_entry items old new entries more star box levels n e h sound is same live
       plain = subst Plain (sym env) (plain_more before.env e h.plain plain);
       room = omega (arith, ap length env, length_push before.env e);
     }
+
+-- a level as it is read
+pub read_level : (levels : List Level) (i : ℕ) (l : Level) → i < length levels → l ≡ get_or levels i l → level_at levels i ≡ l
+read_level levels i l within is =
+    let first = slice_get-get_or levels i l within in
+    let second = slice_get-get_or levels i no_level within in
+    let same : get_or levels i no_level ≡ get_or levels i l = some_once (sym second ∙ first) in
+    same ∙ sym is
+  where
+    some_once : {a b : Level} → Some a ≡ Some b → a ≡ b
+    some_once e = cc
+
+pub last_live : (known : Known) (levels : List Level) → AreLevels known levels → (last_of (contexts_of levels)).0 < length known.contexts
+last_live known levels h =
+    let P : CtxId → Type 0 = λ c. c.0 < length known.contexts in
+    subst P (sym (last_level levels h.some)) (context_is_last known levels h).context
+
+-- a level whose judgement is led over the later entries
+pub lifted_level : (old new : Known) (n : ℕ) (l : Level) (star : JudgeId) (m : ℕ) → Adds old new → IsLevel old n l
+    → Knows new star (over_first (judgement_at old l.star.0) m) → m ≤ length new.env → IsLevel new n (record { ctx = l.ctx; star = star })
+lifted_level old new n l star m adds h knows within =
+    let ctx = adds.context l.ctx.0 h.context in
+    new_level new n l.ctx star (over_first (judgement_at old l.star.0) m) (omega (arith, adds.contexts, h.context)) (ap count ctx ∙ h.variables_are) knows within
+    (h.same ∙ sym ctx) h.term h.type
+
+-- the judgement of a level, over so many entries
+pub level_judgement : (known : Known) (n : ℕ) (l : Level) (m : ℕ) → IsLevel known n l
+    → over_first (judgement_at known l.star.0) m ≡ record { entries = m; context = context_at known l.ctx.0; term = Star; type = Box }
+level_judgement known n l m h =
+    let j : Judgement = over_first (judgement_at known l.star.0) m in
+    ap (λ (x : Trees). record j { context = x }) h.same
+    ∙ ap (λ (x : Tree). let s : Judgement = record { entries = m; context = context_at known l.ctx.0; term = x; type = j.type } in s) h.term
+    ∙ ap (λ (x : Tree). let s : Judgement = record { entries = m; context = context_at known l.ctx.0; term = Star; type = x } in s) h.type
+
+-- the last level as it is read, and the context that it is of
+pub level_read : (known : Known) (levels : List Level) (i : ℕ) (l : Level) → AreLevels known levels → i < length levels → l ≡ get_or levels i l → IsLevel known i l
+level_read known levels i l h within is =
+    let P : Level → Type 0 = λ x. IsLevel known i x in
+    subst P (read_level levels i l within is) (h.each i within)
+
+pub last_is : (levels : List Level) (i : ℕ) (l : Level) → 0 < length levels → i ≡ length levels - 1 → l ≡ get_or levels i l → last_of (contexts_of levels) ≡ l.ctx
+last_is levels i l some at is =
+    last_level levels some ∙ ap (λ n. (level_at levels n).ctx) (sym at) ∙ ap (λ (x : Level). x.ctx) (read_level levels i l (omega arith) is)
+
+-- the level's judgement over all entries is that of the context
+pub here_level : (s : Standing) (levels : List Level) (star box : TermId) (i : ℕ) (l : Level) (m : ℕ) → IsTheory s.items s.kept s.entries star box levels → s.contexts ≡ contexts_of levels
+    → i ≡ length levels - 1 → l ≡ get_or levels i l → m ≡ length s.entries → over_first (judgement_at (known s) l.star.0) m ≡ here s Star Box
+here_level s levels star box i l m h are at is many =
+    let some = h.levels_are.some in
+    let level = level_read (known s) levels i l h.levels_are (omega arith) is in
+    let all : m ≡ length (env s) = omega (arith, many, length-env_of s.items s.entries, ap length h.env) in
+    let ctx : context_at (known s) l.ctx.0 ≡ context s = ap (λ (c : CtxId). context_at (known s) c.0) (sym (ap last_of are ∙ last_is levels i l some at is)) in
+    level_judgement (known s) i l m level
+    ∙ ap (λ (n : ℕ). let j : Judgement = record { entries = n; context = context_at (known s) l.ctx.0; term = Star; type = Box } in j) all
+    ∙ ap (λ (x : Trees). let j : Judgement = record { entries = length (env s); context = x; term = Star; type = Box } in j) ctx
+
+-- the level of a variable that is put into the context
+pub entered_level : (zero_known one two : Known) (levels : List Level) (i : ℕ) (outer : Level) (ctx : CtxId) (star : JudgeId) (x : Tree) (s : Judgement)
+    → AreLevels zero_known levels → i ≡ length levels - 1 → outer ≡ get_or levels i outer
+    → Adds zero_known one → Adds one two → KnowsContext one ctx (context_at zero_known outer.ctx.0 ▸ x) → Knows two star s
+    → s.entries ≤ length two.env → s.context ≡ context_at one ctx.0 → s.term ≡ Star → s.type ≡ Box → IsLevel two (length levels) (record { ctx = ctx; star = star })
+entered_level zero_known one two levels i outer ctx star x s h at is adds more extended knows within context_is term type =
+    let some = h.some in
+    let level = level_read zero_known levels i outer h (omega arith) is in
+    let stays = more.context ctx.0 extended.live in
+    let many : count (context_at two ctx.0) ≡ length levels = ap count (stays ∙ extended.is) ∙ ap suc level.variables_are ∙ omega arith in
+    new_level two (length levels) ctx star s (omega (arith, more.contexts, extended.live)) many knows within (context_is ∙ sym stays) term type
+
+pub last_pushed : (cs : List CtxId) (c : CtxId) → last_of (cs ++ c ∷ []) ≡ c
+last_pushed cs c = get_or_at cs c [] (record { 0 = 0 }) (length (cs ++ c ∷ []) - 1) (omega (arith, length_push cs c))

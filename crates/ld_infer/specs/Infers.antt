@@ -1,10 +1,13 @@
 -- What type inference answers.
-use Rattle.std.specs.Prelude.{◌≡◌, ◌<◌, ◌×◌, ℕ, List, [], ⊤, Result, Ok, Err}
+use Rattle.std.specs.Prelude.{◌≡◌, ◌<◌, ℕ, List, ⊤, Option, Some, None, Result, Ok, Err}
 use Rattle.ld_terms.specs.Tree.{Tree, Star, Box, Var, App, Lam, Pi, Const, Trees, Nil, ◌▸◌, count}
 use Rattle.ld_terms.specs.Item.{Item}
 use Rattle.ld_terms.specs.Bank.{tree_at, IsTermAt}
 use Rattle.ld_terms.specs.Derivable.{IsSort}
 use Rattle.ld_terms.specs.declared.bank.TermId.{TermId}
+use Rattle.ld_record.specs.declared.record.JudgeId.{JudgeId}
+use Rattle.ld_record.specs.declared.record.Step.{Step}
+use Rattle.ld_record.specs.declared.record.Step.TheVariants.{Inst, InstPrim}
 use Rattle.ld_record.specs.Growth.{Knows}
 use Rattle.ld_infer.specs.declared.failure.RuleName.{RuleName}
 use Rattle.ld_infer.specs.declared.failure.RuleName.TheVariants.{Form}
@@ -14,7 +17,7 @@ use Rattle.ld_infer.specs.declared.failure.Why.TheVariants as why
 use Rattle.ld_infer.specs.declared.failure.Failure.{Failure}
 use Rattle.ld_infer.specs.declared.failure.InferFault.{InferFault}
 use Rattle.ld_infer.specs.declared.failure.InferFault.TheVariants as fault
-use Rattle.ld_infer.specs.declared.infer.Typed.{Typed}
+use Rattle.ld_infer.specs.declared.inference.Typed.{Typed}
 use Rattle.ld_infer.specs.Reading.{Answer, Gives, Refuses, NotBuilt, Refusal, Reason, NoType, NotSame, reading, sort_reading, within, then}
 use Rattle.ld_infer.specs.Standing.{Standing, known, env, context, here}
 
@@ -68,3 +71,8 @@ SortedOr old new answer t (Err f) = Stops new.items answer f
 
 abbrev pub InfersSort : (old new : Standing) → RuleName → (premise : ℕ) → TermId → Result Typed InferFault → Type 0
 InfersSort old new rule premise t result = SortedOr old new (sort_reading (env old) (count (context old)) rule premise (tree_at old.items t)) t result
+
+-- the rule for an instance of an entry that has a body, or of a primitive
+abbrev pub IsInstanceStep : Option TermId → JudgeId → Step → Type 0
+IsInstanceStep (Some body) star step = step ≡ Inst star
+IsInstanceStep None star step = step ≡ InstPrim star

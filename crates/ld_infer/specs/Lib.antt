@@ -1,3 +1,4 @@
 pub mod Reading
 pub mod Standing
 pub mod Theory
+pub mod Infers

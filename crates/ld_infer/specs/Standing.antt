@@ -1,5 +1,5 @@
 -- What a theory stands for.
-use Rattle.std.specs.Prelude.{◌≡◌, ◌-◌, ℕ, List, [], ◌∷◌, ◌++◌, length, map, slice_index_or}
+use Rattle.std.specs.Prelude.{◌≡◌, ◌<◌, ◌-◌, ℕ, List, [], ◌∷◌, ◌++◌, length, map, slice_index_or}
 use Rattle.ld_terms.specs.Tree.{Tree, Trees, ◌▸◌}
 use Rattle.ld_terms.specs.Item.{Item}
 use Rattle.ld_terms.specs.Bank.{Extends}
@@ -60,12 +60,13 @@ pub record KnowsSort (s : Standing) (j : JudgeId) (t : Tree) : Type 0 where
 
 -- One variable is added at the end of the context.
 pub record Enters (old new : Standing) (a : Tree) : Type 0 where
-  pub items : new.items ≡ old.items
+  pub items : Extends old.items new.items
   pub kept : Begins old.kept new.kept
   pub adds : Adds (known old) (known new)
   pub entries : new.entries ≡ old.entries
   pub number : CtxId
   pub contexts : new.contexts ≡ old.contexts ++ number ∷ []
+  pub inner : 1 < length new.contexts
   pub context_is : context new ≡ context old ▸ a
   -- what the outer context's number stands for stays
   pub outer : (later : Known) → Adds (known new) later → context_at later (last_of old.contexts).0 ≡ context old

@@ -39,12 +39,12 @@ pub record AreLevels (known : Known) (levels : List Level) : Type 0 where
 abbrev pub HaveNoParameters : named.Env → Type 0
 HaveNoParameters env = (k : ℕ) → k < length env → (entry_at env k).params ≡ Nil
 
-pub record IsTheory (items : List Item) (kept : List Kept) (entries : List Named) (star box : TermId) (levels : List Level) : Type 0 where
+pub record IsTheory (items : List Item) (kept : List Kept) (entries : List Named) (star_term box_term : TermId) (levels : List Level) : Type 0 where
   pub sound : IsSound items kept
   pub env : env_of items entries ≡ (known_of items kept).env
   pub live : AreLive items entries
-  pub star : StandsFor items star Star
-  pub box : StandsFor items box Box
+  pub star : StandsFor items star_term Star
+  pub box : StandsFor items box_term Box
   pub levels_are : AreLevels (known_of items kept) levels
   pub plain : HaveNoParameters (known_of items kept).env
   pub room : length (known_of items kept).env < 2 ^ 32

@@ -3,7 +3,7 @@ ghost use Rattle.std.specs.Prelude.{◌≡◌, ◌<◌, ◌+◌, ◌-◌, ◌^�
 ghost use Rattle.ld_terms.specs.Tree.{Star, Box, Nil, ◌▸◌, count};
 ghost use Rattle.ld_terms.specs.Bank.{tree_at, item_of, HasParts, IsTermAt, StandsFor, Holds};
 ghost use Rattle.ld_terms.specs.Known.{nothing, judgement_at, line_entry, primitive_entry, IsFree};
-ghost use Rattle.ld_env.specs.Entries.{entry_of, IsLiveEntry};
+ghost use Rattle.ld_env.specs.Entries.{entry_of, env_of, IsLiveEntry, AreLive};
 
 use fb_base::{NoMemory, Text};
 use ld_env::{Entry, Env};
@@ -50,6 +50,7 @@ impl Theory {
     ghost use Rattle.ld_record.specs.Kept.{IsSound, FitsEntry, entry_by};
     ghost use Rattle.ld_record.specs.Growth.{Knows, Adds};
     ghost use Rattle.ld_record.specs.Follows.{Follows};
+    ghost use Rattle.ld_infer.specs.Theory.{HaveNoParameters};
     ghost use Rattle.ld_infer.specs.Standing.{Standing, known, env, context, here, Continues, KnowsSort, Enters, AddsEntry, Goes};
 
     /// The empty environment and context.
@@ -92,9 +93,12 @@ impl Theory {
         &self.bank
     }
 
-    /// The entries, by their names.
+    /// The entries, by their names. None has parameters, since no flag is opened yet.
     pub fn env(&self) -> &Env
-        ensures { result.now ≡ self.now.entries }
+        ensures entries { result.now ≡ self.now.entries }
+        ensures trees { env_of self.now.items self.now.entries ≡ env self.now }
+        ensures live { AreLive self.now.items self.now.entries }
+        ensures plain { HaveNoParameters (env self.now) }
     {
         &self.env
     }
@@ -193,12 +197,8 @@ impl Theory {
             term: self.star,
             of: self.box_,
         };
-        let star = self
-            .deriv
-            .emit(&self.bank, judge, Step::Weak(star, sort))?;
-        self.levels
-            .push(Level { ctx, star })
-            .map_err(|_| NoMemory)?;
+        let star = self.deriv.emit(&self.bank, judge, Step::Weak(star, sort))?;
+        self.levels.push(Level { ctx, star }).map_err(|_| NoMemory)?;
         Ok(())
     }
 

@@ -3,3 +3,8 @@ pub mod Keeping
 pub mod Growing
 pub mod Lifting
 pub mod Rules
+pub mod Prefixes
+pub mod Holding
+pub mod Arguments
+pub mod Derived
+pub mod CallerLemmas

@@ -2,3 +2,4 @@ pub mod Follows
 pub mod Kept
 pub mod Tables
 pub mod Growth
+pub mod Laws

@@ -2,7 +2,10 @@
 #![tactic(auto)]
 
 mod deriv;
+pub mod laws;
 mod record;
+#[cfg(test)]
+mod tests;
 
 pub use deriv::Deriv;
 pub use record::{CtxId, Judge, JudgeId, Kept, Step};

@@ -1,13 +1,13 @@
 -- A list of terms is kept by adding one after the other at its end.
-use Rattle.std.proofs.Common.{◌≡◌, ◌≤◌, max, ℕ, List, [], ◌∷◌, ◌++◌, refl, ap, sym, ◌∙◌, subst, arith}
+use Rattle.std.proofs.Common.{◌≡◌, List, [], ◌∷◌, ◌++◌, refl, ap, sym, ◌∙◌}
 use Rattle.std.proofs.Common.{All}
 use Rattle.std.proofs.lemmas.List.Elements.{All-head, All-tail}
 use Rattle.ld_terms.specs.Tree.{Trees, Nil, ◌▸◌}
-use Rattle.ld_terms.specs.Item.{Item, One, Many, tree, list, IsOne, IsMany, IsSmall, height_of, index_of}
-use Rattle.ld_terms.specs.Bank.{item_at, tree_at, item_of, IsTermAt, IsListAt, HasParts, Extends, Holds, ListStandsFor, listed}
+use Rattle.ld_terms.specs.Item.{Item, Many, tree, list, IsSmall}
+use Rattle.ld_terms.specs.Bank.{item_at, tree_at, item_of, IsTermAt, Extends, Holds, ListStandsFor, listed}
 use Rattle.ld_terms.specs.declared.bank.TermId.{TermId}
 use Rattle.ld_terms.specs.declared.bank.Node.TheVariants as node
-use Rattle.ld_terms.proofs.Banks.{both, term_at_later, extends_trans}
+use Rattle.ld_terms.proofs.Banks.{both, extends_trans}
 
 pub listed-push : (items : List Item) (us : Trees) (ts : List TermId) (t : TermId) → listed items us (ts ++ t ∷ []) ≡ listed items us ts ▸ tree_at items t
 listed-push items us [] t = refl

@@ -1,7 +1,7 @@
 -- What the records of a derivation have made known, and when one more judgement follows from it.
 use Rattle.std.specs.Prelude.{◌≡◌, ℕ, suc, ◌<◌, ◌≤◌, max, List, [], ◌∷◌, ◌++◌, length, map, slice_index_or}
 use Rattle.std.specs.List.{AllByRecursion}
-use Rattle.ld_terms.specs.Tree.{Tree, Star, Box, Var, App, Lam, Pi, Const, Trees, Nil, ◌▸◌, count}
+use Rattle.ld_terms.specs.Tree.{Tree, Star, Box, Trees, Nil, ◌▸◌, count}
 use Rattle.ld_terms.specs.Put.{lift, put}
 use Rattle.ld_terms.specs.Entry.{Entry, Defined, Primitive, Env, EntryAt, IsFresh, HasBody, UnfoldsTo}
 use Rattle.ld_terms.specs.Derivable.{IsSort}

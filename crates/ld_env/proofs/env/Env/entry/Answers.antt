@@ -1,4 +1,4 @@
-use Rattle.std.proofs.Common.{◌≡◌, Some, slice_get, sym, ap, ◌∙◌}
+use Rattle.std.proofs.Common.{slice_get, sym, ap, ◌∙◌}
 use Rattle.ld_env.specs.Named.{entries_of}
 use Rattle.ld_env.proofs.Names.{entries_are}
 use Rattle.ld_env.proofs.env.Env.entry.Goals as goal

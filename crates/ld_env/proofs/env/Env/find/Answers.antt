@@ -1,10 +1,10 @@
-use Rattle.std.proofs.Common.{◌≡◌, Some, None, slice_get, Contains, is_some, subst, sym, ap, ◌∙◌}
-use Rattle.ld_env.specs.Named.{names_of, AreNamesDistinct}
+use Rattle.std.proofs.Common.{subst, sym}
+use Rattle.ld_env.specs.Named.{AreNamesDistinct}
 use Rattle.ld_env.proofs.Names.{absent, found_name, distinct_names}
 use Rattle.ld_env.proofs.env.Env.find.Goals as goal
 
 pub returns-in_err-place-clause-place : goal.returns-in_err-place-clause-place
-returns-in_err-place-clause-place c = 
+returns-in_err-place-clause-place c =
     rw c.from_residual.ensures (rw (← c.self.view_is) (absent c.args.name.now c.self.inside.entries.entries (sym c.in_err-place.ensures.found)))
 
 pub returns-in_err-place-clause-distinct : goal.returns-in_err-place-clause-distinct

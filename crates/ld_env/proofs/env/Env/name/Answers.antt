@@ -1,4 +1,4 @@
-use Rattle.std.proofs.Common.{◌≡◌, Some, slice_get, sym, ap, ◌∙◌}
+use Rattle.std.proofs.Common.{Some, slice_get, sym, ap, ◌∙◌}
 use Rattle.ld_env.specs.Named.{names_of}
 use Rattle.ld_env.proofs.Names.{name_at}
 use Rattle.ld_env.proofs.env.Env.name.Goals as goal

@@ -1,4 +1,4 @@
-use Rattle.std.proofs.Common.{◌<◌, length, get_or, take, subst, sym, arith}
+use Rattle.std.proofs.Common.{◌<◌, length, get_or, subst, sym, arith}
 use Rattle.std.proofs.lemmas.List.{take_more}
 use Rattle.ld_terms.specs.Bank.{IsTermAt}
 use Rattle.ld_terms.specs.declared.bank.TermId.{TermId}

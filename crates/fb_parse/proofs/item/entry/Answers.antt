@@ -1,0 +1,22 @@
+use Rattle.std.proofs.Common.{rules, true, false, sym}
+use Rattle.std.proofs.lemmas.Result.{err_from_is_err_and}
+use Rattle.fb_parse.proofs.Bodies.{line_fails_1, line_fails_2, line_fails_3, line_read}
+use Rattle.fb_parse.proofs.item.entry.Goals as goal
+
+pub returns-in_err-body-clause-read : goal.returns-in_err-body-clause-read
+returns-in_err-body-clause-read c =
+    let p = err_from_is_err_and c.from_residual.result c.from_residual.ensures.1 in
+    rw (p.1, p.2) (line_fails_1 c.args.text.now c.args.at (λ q. search rules) c.in_err-body.ensures.read)
+
+pub returns-in_err-from-clause-read : goal.returns-in_err-from-clause-read
+returns-in_err-from-clause-read c =
+    let p = err_from_is_err_and c.from_residual-in_err-from.result c.from_residual-in_err-from.ensures.1 in
+    rw (p.1, p.2) (line_fails_2 c.args.text.now c.args.at (λ q. search rules) c.in_ok-body.ensures.read c.in_err-from.ensures.read)
+
+pub returns-in_err-of-clause-read : goal.returns-in_err-of-clause-read
+returns-in_err-of-clause-read c =
+    let p = err_from_is_err_and c.from_residual-in_err-of.result c.from_residual-in_err-of.ensures.1 in
+    rw (p.1, p.2) (line_fails_3 c.args.text.now c.args.at (λ q. search rules) c.in_ok-body.ensures.read c.in_ok-from.ensures.read c.in_err-of.ensures.read)
+
+pub returns-clause-read : goal.returns-clause-read
+returns-clause-read c = line_read c.args.text.now c.args.at (λ q. search rules) c.in_ok-body.ensures.read c.in_ok-from.ensures.read c.in_ok-of.ensures.read

@@ -1,0 +1,30 @@
+-- Each judgement of a derivation is derivable, and the environment of one that is ended is legal.
+use Rattle.std.specs.Prelude.{ℕ, ◌<◌, ◌≤◌, List, length, take}
+use Rattle.ld_terms.specs.Entry.{Env}
+use Rattle.ld_terms.specs.Derivable.{◌⨾◌⊢◌∶◌, IsLegal}
+use Rattle.ld_terms.specs.Item.{Item}
+use Rattle.ld_terms.specs.Known.{Known, Judgement, judgement_at, MayEnd}
+use Rattle.ld_terms.specs.Record.{Record, start, final, Stand}
+use Rattle.ld_record.specs.declared.record.Kept.{Kept}
+use Rattle.ld_record.specs.Kept.{known_of, IsSound}
+
+-- the environment has as many entries as the judgement says, and over the first of them, so many, it is derivable
+pub record IsDerivableIn (env : Env) (j : Judgement) : Type 0 where
+  pub within : j.entries ≤ length env
+  pub derivable : take j.entries env ⨾ j.context ⊢ j.term ∶ j.type
+
+-- each judgement that is known is derivable
+abbrev pub AreDerivable : Known → Type 0
+AreDerivable known = (n : ℕ) → n < length known.nodes → IsDerivableIn known.env (judgement_at known n)
+
+-- the nodes of records that stand one after another are derivable
+abbrev pub NodesAreDerivable : Type 0
+NodesAreDerivable = (rs : List Record) → Stand start rs → AreDerivable (final start rs).known
+
+-- where such records may be ended, their environment is legal
+abbrev pub EnvironmentIsLegal : Type 0
+EnvironmentIsLegal = (rs : List Record) → Stand start rs → (n : ℕ) → MayEnd (final start rs).known n → IsLegal (final start rs).known.env
+
+-- the judgements of kept records are derivable
+abbrev pub KeptNodesAreDerivable : Type 0
+KeptNodesAreDerivable = (items : List Item) (kept : List Kept) → IsSound items kept → AreDerivable (known_of items kept)

@@ -1,0 +1,214 @@
+//! A derivation of a product over a primitive `A : *`, record by record.
+ghost use Rattle.std.specs.Prelude.{◌≡◌, ◌<◌, ◌≤◌, [], ◌∷◌, length, IfOk, OnOk};
+ghost use Rattle.ld_terms.specs.Tree as tree;
+ghost use Rattle.ld_terms.specs.Tree.{◌▸◌};
+ghost use Rattle.ld_terms.specs.Bank.{StandsFor, Extends};
+ghost use Rattle.ld_terms.specs.Known.{nothing, no_judgement, with_node, primitive_entry};
+ghost use Rattle.ld_terms.specs.Entry.{Primitive};
+ghost use Rattle.ld_record.specs.Follows.{entry_at};
+ghost use Rattle.ld_record.specs.Kept.{known_of, IsSound};
+ghost use Rattle.ld_record.specs.Growth.{Knows, Adds, over_first};
+
+use crate::Deriv;
+use crate::record::{Judge, JudgeId, Step};
+use fb_base::{NoMemory, Text};
+use ld_terms::{Bank, Node, TermFault, TermId};
+use std::test::Fail;
+
+#[test]
+fn nothing_is_kept(rt: HostRuntime) {
+    let deriv = Deriv::new(rt.alloc());
+    assert_eq!(rt; deriv.count(), 0);
+    assert_eq!(rt; deriv.empty().number(), 0);
+}
+
+// The number of a new term, which is `*`; of one which is `box`, the instance `A`, the product of `A` and `A`.
+fn star(bank: &mut Bank) -> Result<TermId, TermFault>
+    ensures tree { IfOk result (λ t. StandsFor bank.new t tree.Star) }
+    ensures kept { Extends bank.old bank.new }
+{
+    bank.add(Node::Star)
+}
+
+fn box_sort(bank: &mut Bank) -> Result<TermId, TermFault>
+    ensures tree { IfOk result (λ t. StandsFor bank.new t tree.Box) }
+    ensures kept { Extends bank.old bank.new }
+{
+    bank.add(Node::Box_)
+}
+
+fn instance(bank: &mut Bank) -> Result<TermId, TermFault>
+    ensures tree { IfOk result (λ t. StandsFor bank.new t (tree.Const 0 tree.Nil)) }
+    ensures kept { Extends bank.old bank.new }
+{
+    let none = bank.add(Node::Nil)?;
+    bank.add(Node::Const(0, none))
+}
+
+fn product(bank: &mut Bank, a: TermId) -> Result<TermId, TermFault>
+    requires { StandsFor bank.old a (tree.Const 0 tree.Nil) }
+    ensures tree { IfOk result (λ t. StandsFor bank.new t (tree.Pi (tree.Const 0 tree.Nil) (tree.Const 0 tree.Nil))) }
+    ensures kept { Extends bank.old bank.new }
+{
+    bank.add(Node::Pi(a, a))
+}
+
+// `* : box` over no entries.
+fn start(
+    deriv: &mut Deriv,
+    bank: &Bank,
+    star: TermId,
+    box_sort: TermId,
+) -> Result<JudgeId, NoMemory>
+    requires none { deriv.old ≡ [] }
+    requires star { StandsFor bank.now star tree.Star }
+    requires box_sort { StandsFor bank.now box_sort tree.Box }
+    ensures known { OnOk result (known_of bank.now deriv.new ≡ with_node nothing no_judgement) }
+    ensures number { IfOk result (λ j. j.0 ≡ 0) }
+    ensures sound { IsSound bank.now deriv.new }
+{
+    let judge = Judge {
+        entries: 0,
+        ctx: deriv.empty(),
+        term: star,
+        of: box_sort,
+    };
+    deriv.emit(bank, judge, Step::Sort)
+}
+
+// The entry of the primitive, and `* : box` over it.
+fn primitive(deriv: &mut Deriv, bank: &Bank, name: Text, j: JudgeId) -> Result<JudgeId, NoMemory>
+    requires sound { IsSound bank.now deriv.old }
+    requires known { known_of bank.now deriv.old ≡ with_node nothing no_judgement }
+    requires number { j.0 ≡ 0 }
+    requires some { 0 < length name }
+    requires short { length name ≤ 255 }
+    ensures env { OnOk result ((known_of bank.now deriv.new).env ≡ primitive_entry name no_judgement ∷ []) }
+    ensures number { IfOk result (λ k. Knows (known_of bank.now deriv.new) k (over_first no_judgement 1)) }
+    ensures sound { IsSound bank.now deriv.new }
+{
+    deriv.entry(bank, name, j, true)?;
+    deriv.lift_by_def(bank, j, 1)
+}
+
+// `A : *` over the primitive, from `* : box` over it.
+fn typed(
+    deriv: &mut Deriv,
+    bank: &Bank,
+    a: TermId,
+    star: TermId,
+    j: JudgeId,
+) -> Result<JudgeId, NoMemory>
+    requires sound { IsSound bank.now deriv.old }
+    requires there { length (known_of bank.now deriv.old).env ≡ 1 }
+    requires params { (entry_at (known_of bank.now deriv.old).env 0).params ≡ tree.Nil }
+    requires body { (entry_at (known_of bank.now deriv.old).env 0).body ≡ Primitive }
+    requires of { (entry_at (known_of bank.now deriv.old).env 0).type ≡ tree.Star }
+    requires a { StandsFor bank.now a (tree.Const 0 tree.Nil) }
+    requires star { StandsFor bank.now star tree.Star }
+    requires over { Knows (known_of bank.now deriv.old) j (over_first no_judgement 1) }
+    ensures number { IfOk result (λ k. Knows (known_of bank.now deriv.new) k (record (over_first no_judgement 1) { term = tree.Const 0 tree.Nil; type = tree.Star })) }
+    ensures adds { Adds (known_of bank.now deriv.old) (known_of bank.now deriv.new) }
+    ensures sound { IsSound bank.now deriv.new }
+{
+    let judge = Judge {
+        entries: 1,
+        ctx: deriv.empty(),
+        term: a,
+        of: star,
+    };
+    deriv.emit(bank, judge, Step::InstPrim(j))
+}
+
+// `A : *` over the primitive, in the context of a variable of `A`.
+fn weakened(
+    deriv: &mut Deriv,
+    bank: &Bank,
+    a: TermId,
+    star: TermId,
+    j: JudgeId,
+) -> Result<JudgeId, NoMemory>
+    requires sound { IsSound bank.now deriv.old }
+    requires there { length (known_of bank.now deriv.old).env ≡ 1 }
+    requires a { StandsFor bank.now a (tree.Const 0 tree.Nil) }
+    requires star { StandsFor bank.now star tree.Star }
+    requires typed { Knows (known_of bank.now deriv.old) j (record (over_first no_judgement 1) { term = tree.Const 0 tree.Nil; type = tree.Star }) }
+    ensures number { IfOk result (λ k. Knows (known_of bank.now deriv.new) k
+        (record (over_first no_judgement 1) { context = tree.Nil ▸ tree.Const 0 tree.Nil; term = tree.Const 0 tree.Nil; type = tree.Star })) }
+    ensures adds { Adds (known_of bank.now deriv.old) (known_of bank.now deriv.new) }
+    ensures sound { IsSound bank.now deriv.new }
+{
+    let empty = deriv.empty();
+    let ctx = deriv.extend(bank, empty, a)?;
+    let judge = Judge {
+        entries: 1,
+        ctx,
+        term: a,
+        of: star,
+    };
+    deriv.emit(bank, judge, Step::Weak(j, j))
+}
+
+// The product of `A` and `A`.
+fn formed(
+    deriv: &mut Deriv,
+    bank: &Bank,
+    product: TermId,
+    star: TermId,
+    j: JudgeId,
+    k: JudgeId,
+) -> Result<JudgeId, NoMemory>
+    requires sound { IsSound bank.now deriv.old }
+    requires there { length (known_of bank.now deriv.old).env ≡ 1 }
+    requires product { StandsFor bank.now product (tree.Pi (tree.Const 0 tree.Nil) (tree.Const 0 tree.Nil)) }
+    requires star { StandsFor bank.now star tree.Star }
+    requires typed { Knows (known_of bank.now deriv.old) j (record (over_first no_judgement 1) { term = tree.Const 0 tree.Nil; type = tree.Star }) }
+    requires weakened { Knows (known_of bank.now deriv.old) k
+        (record (over_first no_judgement 1) { context = tree.Nil ▸ tree.Const 0 tree.Nil; term = tree.Const 0 tree.Nil; type = tree.Star }) }
+    ensures number { IfOk result (λ l. Knows (known_of bank.now deriv.new) l
+        (record (over_first no_judgement 1) { term = tree.Pi (tree.Const 0 tree.Nil) (tree.Const 0 tree.Nil); type = tree.Star })) }
+    ensures sound { IsSound bank.now deriv.new }
+{
+    let judge = Judge {
+        entries: 1,
+        ctx: deriv.empty(),
+        term: product,
+        of: star,
+    };
+    deriv.emit(bank, judge, Step::Form(j, k))
+}
+
+#[test]
+fn keeps_a_product(rt: HostRuntime) -> Result<(), Fail> {
+    let mut bank = Bank::new(rt.alloc());
+    let star = star(&mut bank)?;
+    let box_sort = box_sort(&mut bank)?;
+    let a = instance(&mut bank)?;
+    let product = product(&mut bank, a)?;
+    let name = Text::from_bytes(rt.alloc(), b"A")?;
+    let mut deriv = Deriv::new(rt.alloc());
+    let first = start(&mut deriv, &bank, star, box_sort)?;
+    let over = primitive(&mut deriv, &bank, name, first)?;
+    let type_of_a = typed(&mut deriv, &bank, a, star, over)?;
+    let inner = weakened(&mut deriv, &bank, a, star, type_of_a)?;
+    let last = formed(&mut deriv, &bank, product, star, type_of_a, inner)?;
+    assert_eq!(rt; deriv.count(), 7);
+    let wanted = [
+        "Node(Judge { entries: 0, ctx: CtxId(0), term: TermId(0), of: TermId(1) }, Sort)",
+        "Entry(Text { bytes: [65] }, JudgeId(0), true)",
+        "Node(Judge { entries: 1, ctx: CtxId(0), term: TermId(0), of: TermId(1) }, DefPrim(JudgeId(0)))",
+        "Node(Judge { entries: 1, ctx: CtxId(0), term: TermId(3), of: TermId(0) }, InstPrim(JudgeId(1)))",
+        "Context(CtxId(0), TermId(3))",
+        "Node(Judge { entries: 1, ctx: CtxId(1), term: TermId(3), of: TermId(0) }, Weak(JudgeId(2), JudgeId(2)))",
+        "Node(Judge { entries: 1, ctx: CtxId(0), term: TermId(4), of: TermId(0) }, Form(JudgeId(2), JudgeId(3)))",
+    ];
+    for (place, record) in wanted.iter().enumerate() {
+        let kept = format!(in rt.alloc(); "{:?}", deriv.kept(place))?;
+        assert_eq!(rt; kept.as_str(), *record, "at {place}");
+    }
+    let judge = deriv.judge(&bank, last);
+    assert_eq!(rt; (judge.entries, judge.ctx.number()), (1, 0));
+    assert_eq!(rt; (judge.term, judge.of), (product, star));
+    assert_eq!(rt; last.number(), 4);
+    Ok(())
+}
