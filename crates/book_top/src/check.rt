@@ -1,17 +1,61 @@
 //! The check of a parsed book, and the writing of its derivation.
-ghost use Rattle.std.specs.Prelude.{◌≡◌, ◌<◌, ◌≤◌, ◌+◌, ◌^◌, ◌++◌, true, IsTrue, length, IfSome, OnOk, OnErr, IsErrOf};
-ghost use Rattle.fb_base.specs.Desk.{Rose};
+ghost use Rattle.std.specs.Prelude.{◌≡◌, ◌<◌, ◌≤◌, ◌+◌, ◌^◌, ◌++◌, [], true, IsTrue, length, All, IfSome, IfOk, OnOk, OnErr, IsErrOf};
+ghost use Rattle.fb_base.specs.Desk.{Rose, OthersStay, content_of};
+ghost use Rattle.fb_parse.specs.ItemView.{item_view, items_view};
+ghost use Rattle.ld_terms.specs.Tree.{Nil};
+ghost use Rattle.ld_record.specs.Kept.{IsSound};
 ghost use Rattle.ld_record.specs.Growth.{Knows};
-ghost use Rattle.dr_text.specs.Written.{last_judgement};
-ghost use Rattle.ld_infer.specs.Standing.{known};
+ghost use Rattle.dr_text.specs.Spelling.{header as header_bytes};
+ghost use Rattle.dr_text.specs.Written.{IsWritten, last_judgement};
+ghost use Rattle.dr_text.specs.Derives.{Derives};
+ghost use Rattle.ld_infer.specs.Standing.{known, env, context};
+ghost use Rattle.book_top.specs.declared.status.Summary.{Summary};
 ghost use Rattle.book_top.specs.Desk.{OnlyTarget};
-ghost use Rattle.book_top.specs.Chunks.{WritesChunk};
+ghost use Rattle.book_top.specs.Chunks.{WritesChunk, IsCheckDone};
+ghost use Rattle.book_top.specs.Judged.{IsNameSpan, IsAccepted};
 
-use dr_text::Writer;
-use fb_base::{Desk, DeskFault};
+use crate::item::{ItemStop, judge_item};
+use crate::status::Summary;
+use dr_text::{Writer, header};
+use fb_base::{Desk, DeskFault, NoMemory, Span};
+use fb_parse::Item;
 use ld_infer::Theory;
 use ld_record::JudgeId;
 use std::alloc::Global;
+
+/// Why a check stopped.
+#[derive(Debug, Drop)]
+pub enum Stop {
+    Desk,
+    Memory,
+    /// The item of this number, counted from 0, isn't accepted.
+    Item(u64, Span, ItemStop),
+}
+
+impl From<DeskFault> for Stop {
+    ghost use Rattle.std.specs.Prelude.{◌≡◌};
+    ghost use Rattle.book_top.specs.Chunks.{stop_by};
+
+    ghost from_gives = { λ fault stop. stop ≡ stop_by fault };
+
+    fn from(fault: DeskFault) -> Self {
+        match fault {
+            DeskFault::Failed => Stop::Desk,
+            DeskFault::Memory => Stop::Memory,
+        }
+    }
+}
+
+impl From<NoMemory> for Stop {
+    ghost use Rattle.std.specs.Prelude.{◌≡◌};
+    ghost use Rattle.book_top.specs.declared.check.Stop.TheVariants.{Memory};
+
+    ghost from_gives = { λ _ stop. stop ≡ Memory };
+
+    fn from(_: NoMemory) -> Self {
+        Stop::Memory
+    }
+}
 
 // Writes the records that are not written, and with a judgement the end of the file.
 fn write_chunk<D: Desk>(
@@ -26,10 +70,120 @@ fn write_chunk<D: Desk>(
     requires ended { IfSome ended (λ j. Knows (known theory.now) j (last_judgement (known theory.now))) }
     ensures chunk { WritesChunk theory.now.items theory.now.kept writer.old writer.new ended (D.seen desk.old) (D.seen desk.new) result }
     ensures written { OnOk result (writer.new.written ≡ length theory.now.kept) }
+    ensures sound { OnOk result (IsSound theory.now.items theory.now.kept) }
     ensures stays { OnlyTarget (D.seen desk.old) (D.seen desk.new) }
     ensures desk { IsErrOf result DeskFault.Failed → Rose (D.seen desk.old).faults (D.seen desk.new).faults }
 {
     let mut out = Vec::new(alloc);
     writer.chunk(theory.bank(), theory.deriv(), ended, &mut out)?;
     desk.append(&out)
+}
+
+// Judges one item, and writes its records.
+fn check_item<D: Desk>(
+    alloc: Global,
+    theory: &mut Theory,
+    writer: &mut Writer,
+    desk: &mut D,
+    text: &[u8],
+    number: u64,
+    item: &Item,
+) -> Result<(), Stop>
+    requires name { IsNameSpan text.now item.now.name }
+    requires flat { context theory.old ≡ Nil }
+    requires room { length (env theory.old) + 1 < 2 ^ 32 }
+    requires started { (D.seen desk.old).started ≡ true }
+    requires written { writer.old.written ≤ length theory.old.kept }
+    ensures writes { OnOk result (IsSound theory.old.items theory.old.kept → IsTrue (D.seen desk.old).tells_files
+        → IsWritten theory.old.items theory.old.kept writer.old (content_of (D.seen desk.old) (D.seen desk.old).target)
+        → IsWritten theory.new.items theory.new.kept writer.new (content_of (D.seen desk.new) (D.seen desk.old).target)) }
+    ensures written { OnOk result (writer.new.written ≡ length theory.new.kept) }
+    ensures sound { OnOk result (IsSound theory.new.items theory.new.kept) }
+    ensures accepted { OnOk result (IsAccepted theory.old theory.new (item_view text.now item.now)) }
+    ensures flat { OnOk result (context theory.new ≡ Nil) }
+    ensures stays { OnlyTarget (D.seen desk.old) (D.seen desk.new) }
+    ensures desk { IsErrOf result Stop.Desk → Rose (D.seen desk.old).faults (D.seen desk.new).faults }
+{
+    if let Err(stop) = judge_item(alloc, theory, text, item) {
+        return Err(refused(stop, number, item.span));
+    }
+    write_chunk(alloc, theory, writer, None, desk)?;
+    Ok(())
+}
+
+fn refused(stop: ItemStop, number: u64, at: Span) -> Stop
+    ensures { result ≡ Stop.Desk → ⊥ }
+{
+    match stop {
+        ItemStop::Memory => Stop::Memory,
+        stop => Stop::Item(number, at, stop),
+    }
+}
+
+// Starts the file, with its header.
+fn begin<D: Desk>(desk: &mut D, out: &str) -> Result<(), DeskFault>
+    ensures started { OnOk result ((D.seen desk.new).started ≡ true) }
+    ensures target { OnOk result (IsTrue (D.seen desk.old).tells_files → (D.seen desk.new).target ≡ out.now) }
+    ensures header { OnOk result (IsTrue (D.seen desk.old).tells_files → content_of (D.seen desk.new) out.now ≡ header_bytes) }
+    ensures told { (D.seen desk.new).tells_files ≡ (D.seen desk.old).tells_files }
+    ensures said { (D.seen desk.new).said ≡ (D.seen desk.old).said }
+    ensures others { IsTrue (D.seen desk.old).tells_files → OthersStay (D.seen desk.old) (D.seen desk.new) out.now }
+    ensures never_falls { (D.seen desk.old).faults ≤ (D.seen desk.new).faults }
+    ensures desk { IsErrOf result DeskFault.Failed → Rose (D.seen desk.old).faults (D.seen desk.new).faults }
+{
+    desk.start(out)?;
+    desk.append(header())
+}
+
+// Writes the end of the file.
+fn finish<D: Desk>(
+    alloc: Global,
+    theory: &mut Theory,
+    writer: &mut Writer,
+    desk: &mut D,
+) -> Result<(), Stop>
+    requires flat { context theory.old ≡ Nil }
+    requires started { (D.seen desk.old).started ≡ true }
+    requires written { writer.old.written ≤ length theory.old.kept }
+    ensures done { OnOk result (IsSound theory.old.items theory.old.kept → IsTrue (D.seen desk.old).tells_files
+        → IsWritten theory.old.items theory.old.kept writer.old (content_of (D.seen desk.old) (D.seen desk.old).target)
+        → Derives (content_of (D.seen desk.new) (D.seen desk.old).target) (env theory.old) (known theory.old).notes) }
+    ensures stays { OnlyTarget (D.seen desk.old) (D.seen desk.new) }
+    ensures desk { IsErrOf result Stop.Desk → Rose (D.seen desk.old).faults (D.seen desk.new).faults }
+{
+    let star = theory.star_judgement()?;
+    write_chunk(alloc, theory, writer, Some(star), desk)?;
+    Ok(())
+}
+
+/// Checks the items of a book with this text, and writes the derivation.
+pub fn check_items<D: Desk>(
+    alloc: Global,
+    desk: &mut D,
+    out: &str,
+    text: &[u8],
+    items: &[Item],
+) -> Result<Summary, Stop>
+    requires names { All (λ i. IsNameSpan text.now i.name) items.now }
+    requires few { length items.now ≤ 100000 }
+    ensures done { IfOk result (λ summary. IsTrue (D.seen desk.old).tells_files → IsCheckDone (content_of (D.seen desk.new) out.now) (items_view text.now items.now) summary) }
+    ensures others { IsTrue (D.seen desk.old).tells_files → OthersStay (D.seen desk.old) (D.seen desk.new) out.now }
+    ensures never_falls { (D.seen desk.old).faults ≤ (D.seen desk.new).faults }
+    ensures told { (D.seen desk.new).tells_files ≡ (D.seen desk.old).tells_files }
+    ensures said { (D.seen desk.new).said ≡ (D.seen desk.old).said }
+    ensures desk { IsErrOf result Stop.Desk → Rose (D.seen desk.old).faults (D.seen desk.new).faults }
+{
+    begin(desk, out)?;
+    let mut theory = Theory::new(alloc)?;
+    let mut writer = Writer::new(alloc);
+    for (number, item) in items.iter().enumerate() {
+        check_item(alloc, &mut theory, &mut writer, desk, text, number as u64, item)?;
+    }
+    finish(alloc, &mut theory, &mut writer, desk)?;
+    let count = items.len() as u64;
+    Ok(Summary {
+        items: count,
+        entries: count,
+        steps: 0,
+    })
 }

@@ -1,6 +1,7 @@
 //! The top call: from the words of the command line to the derivation file and the report.
 #![tactic(auto)]
 
+pub mod check;
 mod item;
 mod names;
 mod report;
