@@ -2,3 +2,5 @@ pub mod Wording
 pub mod Finding
 pub mod Readings
 pub mod Judging
+pub mod Sessions
+pub mod Checks

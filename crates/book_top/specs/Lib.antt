@@ -8,3 +8,4 @@ pub mod Top
 pub mod Built
 pub mod Judged
 pub mod Chunks
+pub mod Run

@@ -1,11 +1,13 @@
 //! The top call: from the words of the command line to the derivation file and the report.
 #![tactic(auto)]
 
-pub mod check;
+mod check;
 mod item;
 mod names;
 mod report;
 mod status;
+mod top;
 mod words;
 
 pub use status::{LimitFault, RuleFault, Side, Status, Summary, TextFault, TextWhat, WhyName};
+pub use top::run;

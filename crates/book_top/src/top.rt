@@ -1,0 +1,170 @@
+//! The top call: what the words ask for, and one report.
+ghost use Rattle.std.specs.Prelude.{◌≡◌, ◌≤◌, ◌<◌, ◌++◌, ◌⊎◌, ℕ, List, All, IfOk, IfErr, IsTrue, IsErrOf, Some, length};
+ghost use Rattle.fb_base.specs.Desk.{Rose, OthersStay};
+ghost use Rattle.book_top.specs.declared.status.Summary.{Summary};
+ghost use Rattle.book_top.specs.Report.{report_of};
+ghost use Rattle.book_top.specs.Words.{texts, IsCheck, IsNoCommand};
+ghost use Rattle.book_top.specs.Top.{IsDone, IsFetched};
+ghost use Rattle.book_top.specs.Run.{DoesCheck, IsUnasked, MayAnswer, AnswersFault, AnswersStop};
+
+use crate::check::{Stop, check_items};
+use crate::item::ItemStop;
+use crate::report::report;
+use crate::status::{LimitFault, RuleFault, Side, Status, TextFault, TextWhat, WhyName};
+use crate::words::command;
+use bumpalo::Bump;
+use fb_base::{Desk, DeskFault, Span};
+use fb_lex::LexFault;
+use fb_parse::{ParseFault, parse_book};
+use ld_infer::{Failure, Why};
+use std::alloc::Global;
+
+const BOOK_BYTES: usize = 4_194_304;
+
+/// Does what the words of the command line ask for, and says one report.
+pub fn run<D: Desk>(alloc: Global, words: &[&str], desk: &mut D) -> Status
+    ensures done { (summary : Summary) → result ≡ Status.Done summary → IsTrue (D.seen desk.old).tells_files
+        → DoesCheck (D.seen desk.old) (D.seen desk.new) (texts words.now) summary }
+    ensures usage { result ≡ Status.Usage → IsNoCommand (texts words.now) }
+    ensures asked { IsNoCommand (texts words.now) → IsUnasked result }
+    ensures others { (book out : List ℕ) → IsCheck (texts words.now) book out → IsTrue (D.seen desk.old).tells_files → OthersStay (D.seen desk.old) (D.seen desk.new) out }
+    ensures files { IsNoCommand (texts words.now) → (D.seen desk.new).files ≡ (D.seen desk.old).files }
+    ensures desk { result ≡ Status.Desk → Rose (D.seen desk.old).faults (D.seen desk.new).faults }
+{
+    match command(words) {
+        Some(asked) => {
+            let status = check(alloc, asked.book, asked.out, desk);
+            say(alloc, desk, status)
+        }
+        None => say(alloc, desk, Status::Usage),
+    }
+}
+
+// Says the report of an answer.
+fn say<D: Desk>(alloc: Global, desk: &mut D, status: Status) -> Status
+    ensures answer { MayAnswer status result }
+    ensures said { IsTrue (D.seen desk.old).tells_said → result ≡ status → (D.seen desk.new).said ≡ (D.seen desk.old).said ++ report_of status }
+    ensures files { (D.seen desk.new).files ≡ (D.seen desk.old).files }
+    ensures tells { (D.seen desk.new).tells_said ≡ (D.seen desk.old).tells_said }
+    ensures never_falls { (D.seen desk.old).faults ≤ (D.seen desk.new).faults }
+    ensures desk { result ≡ Status.Desk → (status ≡ Status.Desk) ⊎ Rose (D.seen desk.old).faults (D.seen desk.new).faults }
+{
+    if let Status::Desk = status {
+        return status;
+    }
+    let Ok(text) = report(alloc, &status) else {
+        return Status::Memory;
+    };
+    match desk.say(&text) {
+        Ok(()) => status,
+        Err(DeskFault::Failed) => Status::Desk,
+        Err(DeskFault::Memory) => Status::Memory,
+    }
+}
+
+// The check of a book.
+fn check<D: Desk>(alloc: Global, book: &str, out: &str, desk: &mut D) -> Status
+    ensures done { (summary : Summary) → result ≡ Status.Done summary → IsTrue (D.seen desk.old).tells_files
+        → IsDone (D.seen desk.old) (D.seen desk.new) book.now out.now summary }
+    ensures no_usage { result ≡ Status.Usage → ⊥ }
+    ensures others { IsTrue (D.seen desk.old).tells_files → OthersStay (D.seen desk.old) (D.seen desk.new) out.now }
+    ensures said { (D.seen desk.new).said ≡ (D.seen desk.old).said }
+    ensures tells_said { (D.seen desk.new).tells_said ≡ (D.seen desk.old).tells_said }
+    ensures tells_files { (D.seen desk.new).tells_files ≡ (D.seen desk.old).tells_files }
+    ensures never_falls { (D.seen desk.old).faults ≤ (D.seen desk.new).faults }
+    ensures desk { result ≡ Status.Desk → Rose (D.seen desk.old).faults (D.seen desk.new).faults }
+{
+    let text = match fetch(alloc, desk, book) {
+        Ok(text) => text,
+        Err(status) => return status,
+    };
+    let arena = Bump::new(alloc);
+    let parsed = match parse_book(&arena, &text) {
+        Ok(parsed) => parsed,
+        Err(fault) => return parse_answer(fault),
+    };
+    match check_items(alloc, desk, out, &text, parsed.items) {
+        Ok(summary) => Status::Done(summary),
+        Err(stop) => stop_answer(stop),
+    }
+}
+
+// The whole book.
+fn fetch<D: Desk>(alloc: Global, desk: &mut D, book: &str) -> Result<Vec<u8>, Status>
+    ensures bytes { IfOk result (λ text. IsTrue (D.seen desk.old).tells_files → IsFetched (D.seen desk.old) book.now text.items) }
+    ensures short { IfOk result (λ text. length text.items ≤ 4194304) }
+    ensures same { D.seen desk.new ≡ record (D.seen desk.old) { faults = (D.seen desk.new).faults } }
+    ensures never_falls { (D.seen desk.old).faults ≤ (D.seen desk.new).faults }
+    ensures desk { IsErrOf result Status.Desk → Rose (D.seen desk.old).faults (D.seen desk.new).faults }
+    ensures not_done { (summary : Summary) → IsErrOf result (Status.Done summary) → ⊥ }
+    ensures no_usage { IsErrOf result Status.Usage → ⊥ }
+{
+    match desk.fetch(alloc, book, BOOK_BYTES + 1) {
+        Ok(text) => {
+            if text.len() > BOOK_BYTES {
+                return Err(Status::Limit(LimitFault::BookBytes));
+            }
+            Ok(text)
+        }
+        Err(DeskFault::Failed) => Err(Status::Desk),
+        Err(DeskFault::Memory) => Err(Status::Memory),
+    }
+}
+
+// The answer for a text that is no book.
+fn parse_answer(fault: ParseFault) -> Status
+    ensures answers { AnswersFault fault result }
+{
+    match fault {
+        ParseFault::Lex(LexFault::BadByte(at)) => text_answer(TextWhat::BadByte, at),
+        ParseFault::Lex(LexFault::LongName(at)) => text_answer(TextWhat::LongName, at),
+        ParseFault::Syntax(at) => text_answer(TextWhat::Syntax, at),
+        ParseFault::Deep(at) => Status::Limit(LimitFault::Nesting(at)),
+        ParseFault::ManyItems(at) => Status::Limit(LimitFault::Items(at)),
+        ParseFault::Memory => Status::Memory,
+    }
+}
+
+// A fault of the text at one place.
+fn text_answer(what: TextWhat, at: usize) -> Status
+    ensures { result ≡ Status.Text (record { side = Side.Book; at = record { start = at; end = at }; what = what }) }
+{
+    Status::Text(TextFault {
+        side: Side::Book,
+        at: Span { start: at, end: at },
+        what,
+    })
+}
+
+// The answer for a check that stopped.
+fn stop_answer(stop: Stop) -> Status
+    ensures answers { AnswersStop stop result }
+{
+    match stop {
+        Stop::Desk => Status::Desk,
+        Stop::Memory => Status::Memory,
+        Stop::Item(_, _, ItemStop::Text(fault)) => Status::Text(fault),
+        Stop::Item(_, at, ItemStop::High) => Status::Limit(LimitFault::Height(at.start)),
+        Stop::Item(number, at, ItemStop::Refused(failure)) => {
+            Status::Rule(rule_fault(number, at, failure))
+        }
+        Stop::Item(_, _, ItemStop::Memory) => Status::Memory,
+    }
+}
+
+// The refusal of an item, whose number is counted from 0, by a rule.
+fn rule_fault(number: u64, at: Span, failure: Failure) -> RuleFault {
+    let why = match failure.why {
+        Why::NoType => WhyName::NoType,
+        Why::NotSame { .. } => WhyName::NotSame,
+    };
+    RuleFault {
+        side: Side::Book,
+        item: number.saturating_add(1),
+        at,
+        rule: failure.rule,
+        premise: failure.premise,
+        path: failure.path,
+        why,
+    }
+}
