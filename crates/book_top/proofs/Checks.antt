@@ -29,6 +29,7 @@ use Rattle.book_top.specs.Judged.{IsAccepted}
 
 pub record Checks (before now : Seen) (out : List ℕ) (all : List SurfaceItem) (index : ℕ) (theory : Standing) (writer : Writer) : Type 0 where
   pub told : now.tells_files ≡ before.tells_files
+  pub tells_said : now.tells_said ≡ before.tells_said
   pub said : now.said ≡ before.said
   pub started : now.started ≡ true
   pub target : IsTrue before.tells_files → now.target ≡ out
@@ -59,17 +60,18 @@ length_view text (x ∷ xs) = ap suc (length_view text xs)
 
 -- nothing but the header is written
 pub checks_none : (before now : Seen) (out : List ℕ) (all : List SurfaceItem) (theory : Standing) (writer : Writer)
-    → now.tells_files ≡ before.tells_files → now.said ≡ before.said → now.started ≡ true → (IsTrue before.tells_files → now.target ≡ out)
+    → now.tells_files ≡ before.tells_files → now.tells_said ≡ before.tells_said → now.said ≡ before.said → now.started ≡ true → (IsTrue before.tells_files → now.target ≡ out)
     → (IsTrue before.tells_files → content_of now out ≡ header) → (IsTrue before.tells_files → OthersStay before now out) → before.faults ≤ now.faults
     → Adds nothing (known theory) → IsSound theory.items theory.kept → context theory ≡ Nil → ((items : List item.Item) → IsWritten items [] writer header)
     → Checks before now out all 0 theory writer
-checks_none before now out all theory writer told said started target is others never_falls adds sound flat fresh =
+checks_none before now out all theory writer told tells_said said started target is others never_falls adds sound flat fresh =
     let first : IsWritten theory.items theory.kept writer header = written_more theory.items [] theory.kept writer header (record { front = refl }) (fresh theory.items) in
     let W : List ℕ → Type 0 = λ bs. IsWritten theory.items theory.kept writer bs in
     let E : Env → Type 0 = λ e. Accepts [] [] [] e in
     let N : List Note → Type 0 = λ ns. Accepts [] [] ns (env theory) in
     record {
       told = told;
+      tells_said = tells_said;
       said = said;
       started = started;
       target = target;
@@ -98,6 +100,7 @@ checks_more before now after out text items index i theory next writer later h b
     let I : List SurfaceItem → Type 0 = λ is. Accepts [] is ((known theory).notes ++ EntryNote (entry_of (item_view text i).name accepted.reading) ∷ []) (with_item (env theory) (item_view text i) accepted.reading) in
     record {
       told = stays.tells_files ∙ h.told;
+      tells_said = stays.tells_said ∙ h.tells_said;
       said = stays.said ∙ h.said;
       started = stays.started ∙ h.started;
       target = λ t. stays.target ∙ h.target t;

@@ -4,3 +4,4 @@ pub mod Readings
 pub mod Judging
 pub mod Sessions
 pub mod Checks
+pub mod Runs

@@ -11,6 +11,9 @@ use Rattle.book_top.specs.declared.check.Stop.{Stop}
 use Rattle.book_top.specs.declared.check.Stop.TheVariants as stop
 use Rattle.book_top.specs.declared.item.ItemStop.TheVariants as item
 use Rattle.book_top.specs.declared.status.LimitFault.TheVariants as limit
+use Rattle.fb_base.specs.declared.places.Span.{Span}
+use Rattle.ld_infer.specs.declared.failure.Failure.{Failure}
+use Rattle.book_top.specs.declared.status.RuleFault.{RuleFault}
 use Rattle.fb_parse.specs.declared.fault.ParseFault.{ParseFault}
 use Rattle.fb_parse.specs.declared.fault.ParseFault.TheVariants as parse
 
@@ -29,9 +32,12 @@ IsUnasked status.Desk = ⊤
 IsUnasked status.Memory = ⊤
 IsUnasked _ = ⊥
 
--- the answer is kept, unless its report could not be said
-abbrev pub MayAnswer : (before after : Status) → Type 0
-MayAnswer before after = (after ≡ before) ⊎ (after ≡ status.Desk) ⊎ (after ≡ status.Memory)
+-- the refusal of a rule, without its terms
+pub record IsRuleFault (at : Span) (failure : Failure) (f : RuleFault) : Type 0 where
+  pub place : f.at ≡ at
+  pub rule : f.rule ≡ failure.rule
+  pub premise : f.premise ≡ failure.premise
+  pub path : f.path ≡ failure.path
 
 -- the answer for a text that is no book, or for which memory ran out
 abbrev pub AnswersFault : ParseFault → Status → Type 0
@@ -44,6 +50,6 @@ AnswersStop stop.Desk s = s ≡ status.Desk
 AnswersStop stop.Memory s = s ≡ status.Memory
 AnswersStop (stop.Item n at (item.Text f)) s = s ≡ status.Text f
 AnswersStop (stop.Item n at item.High) s = s ≡ status.Limit (limit.Height at.start)
-AnswersStop (stop.Item n at (item.Refused failure)) (status.Rule f) = (f.at ≡ at) × (f.rule ≡ failure.rule) × (f.premise ≡ failure.premise) × (f.path ≡ failure.path)
+AnswersStop (stop.Item n at (item.Refused failure)) (status.Rule f) = IsRuleFault at failure f
 AnswersStop (stop.Item n at (item.Refused failure)) _ = ⊥
 AnswersStop (stop.Item n at item.Memory) s = s ≡ status.Memory

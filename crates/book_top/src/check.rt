@@ -126,6 +126,7 @@ fn begin<D: Desk>(desk: &mut D, out: &str) -> Result<(), DeskFault>
     ensures target { OnOk result (IsTrue (D.seen desk.old).tells_files → (D.seen desk.new).target ≡ out.now) }
     ensures header { OnOk result (IsTrue (D.seen desk.old).tells_files → content_of (D.seen desk.new) out.now ≡ header_bytes) }
     ensures told { (D.seen desk.new).tells_files ≡ (D.seen desk.old).tells_files }
+    ensures tells_said { (D.seen desk.new).tells_said ≡ (D.seen desk.old).tells_said }
     ensures said { (D.seen desk.new).said ≡ (D.seen desk.old).said }
     ensures others { IsTrue (D.seen desk.old).tells_files → OthersStay (D.seen desk.old) (D.seen desk.new) out.now }
     ensures never_falls { (D.seen desk.old).faults ≤ (D.seen desk.new).faults }
@@ -170,6 +171,7 @@ pub fn check_items<D: Desk>(
     ensures others { IsTrue (D.seen desk.old).tells_files → OthersStay (D.seen desk.old) (D.seen desk.new) out.now }
     ensures never_falls { (D.seen desk.old).faults ≤ (D.seen desk.new).faults }
     ensures told { (D.seen desk.new).tells_files ≡ (D.seen desk.old).tells_files }
+    ensures tells_said { (D.seen desk.new).tells_said ≡ (D.seen desk.old).tells_said }
     ensures said { (D.seen desk.new).said ≡ (D.seen desk.old).said }
     ensures desk { IsErrOf result Stop.Desk → Rose (D.seen desk.old).faults (D.seen desk.new).faults }
 {

@@ -2,10 +2,10 @@
 ghost use Rattle.std.specs.Prelude.{◌≡◌, ◌≤◌, ◌<◌, ◌++◌, ◌⊎◌, ℕ, List, All, IfOk, IfErr, IsTrue, IsErrOf, Some, length};
 ghost use Rattle.fb_base.specs.Desk.{Rose, OthersStay};
 ghost use Rattle.book_top.specs.declared.status.Summary.{Summary};
-ghost use Rattle.book_top.specs.Report.{report_of};
+ghost use Rattle.book_top.specs.Report.{done_text};
 ghost use Rattle.book_top.specs.Words.{texts, IsCheck, IsNoCommand};
 ghost use Rattle.book_top.specs.Top.{IsDone, IsFetched};
-ghost use Rattle.book_top.specs.Run.{DoesCheck, IsUnasked, MayAnswer, AnswersFault, AnswersStop};
+ghost use Rattle.book_top.specs.Run.{DoesCheck, IsUnasked, AnswersFault, AnswersStop, IsRuleFault};
 
 use crate::check::{Stop, check_items};
 use crate::item::ItemStop;
@@ -42,8 +42,11 @@ pub fn run<D: Desk>(alloc: Global, words: &[&str], desk: &mut D) -> Status
 
 // Says the report of an answer.
 fn say<D: Desk>(alloc: Global, desk: &mut D, status: Status) -> Status
-    ensures answer { MayAnswer status result }
-    ensures said { IsTrue (D.seen desk.old).tells_said → result ≡ status → (D.seen desk.new).said ≡ (D.seen desk.old).said ++ report_of status }
+    ensures done { (summary : Summary) → result ≡ Status.Done summary → status ≡ Status.Done summary }
+    ensures usage { result ≡ Status.Usage → status ≡ Status.Usage }
+    ensures unasked { status ≡ Status.Usage → IsUnasked result }
+    ensures said { (summary : Summary) → result ≡ Status.Done summary → IsTrue (D.seen desk.old).tells_said
+        → (D.seen desk.new).said ≡ (D.seen desk.old).said ++ done_text summary }
     ensures files { (D.seen desk.new).files ≡ (D.seen desk.old).files }
     ensures tells { (D.seen desk.new).tells_said ≡ (D.seen desk.old).tells_said }
     ensures never_falls { (D.seen desk.old).faults ≤ (D.seen desk.new).faults }
@@ -153,7 +156,9 @@ fn stop_answer(stop: Stop) -> Status
 }
 
 // The refusal of an item, whose number is counted from 0, by a rule.
-fn rule_fault(number: u64, at: Span, failure: Failure) -> RuleFault {
+fn rule_fault(number: u64, at: Span, failure: Failure) -> RuleFault
+    ensures { IsRuleFault at failure result }
+{
     let why = match failure.why {
         Why::NoType => WhyName::NoType,
         Why::NotSame { .. } => WhyName::NotSame,

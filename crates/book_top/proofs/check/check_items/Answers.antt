@@ -5,7 +5,7 @@ use Rattle.book_top.proofs.check.check_items.Goals as goal
 pub loop-number-init : goal.loop-number-init
 loop-number-init g c =
     checks_none _ _ _ _ _ _
-    c.begin.ensures.told c.begin.ensures.said c.in_ok-begin.ensures.started c.in_ok-begin.ensures.target c.in_ok-begin.ensures.header c.begin.ensures.others c.begin.ensures.never_falls
+    c.begin.ensures.told c.begin.ensures.tells_said c.begin.ensures.said c.in_ok-begin.ensures.started c.in_ok-begin.ensures.target c.in_ok-begin.ensures.header c.begin.ensures.others c.begin.ensures.never_falls
     c.in_ok-theory.ensures.known c.in_ok-theory.ensures.sound c.in_ok-theory.ensures.context c.new-writer.ensures
 
 pub loop-number-preserved : goal.loop-number-preserved
