@@ -1,21 +1,17 @@
 -- For the callers of a writer: what is written stays written as terms and records are added.
-use Rattle.std.proofs.Common.{◌≡◌, ℕ, zero, suc, List, [], ◌∷◌, ◌++◌, length, take, ap, sym, ◌∙◌, subst, arith}
+use Rattle.std.proofs.Common.{ℕ, zero, suc, List, [], ◌∷◌, length, take, ap, sym, ◌∙◌, arith}
 use Rattle.std.proofs.lemmas.List.{take-take}
-use Rattle.ld_terms.specs.Tree.{Tree}
 use Rattle.ld_terms.specs.Item.{Item}
 use Rattle.ld_terms.specs.Item as item
 use Rattle.ld_terms.specs.Bank.{Extends}
-use Rattle.ld_terms.specs.Known.{Known, nothing, Judgement}
+use Rattle.ld_terms.specs.Known.{Known, nothing}
 use Rattle.ld_terms.specs.Record.{State, start, final}
-use Rattle.ld_record.specs.declared.record.JudgeId.{JudgeId}
 use Rattle.ld_record.specs.declared.record.Kept.{Kept}
-use Rattle.ld_record.specs.Growth.{Knows}
-use Rattle.ld_record.specs.Kept.{known_of, known_after, with_kept, AreSound, IsSound, Begins}
+use Rattle.ld_record.specs.Kept.{known_of, with_kept, AreSound, IsSound, Begins}
 use Rattle.ld_record.proofs.Growing.{known_later}
 use Rattle.ld_record.proofs.Keeping.{begins_no_longer}
 use Rattle.dr_text.specs.declared.terms.Terms.{Terms}
 use Rattle.dr_text.specs.declared.writer.Writer.{Writer}
-use Rattle.dr_text.specs.Named.{IsJudged, HasJudgedType, HaveJudgedTypes, AreTypesJudged}
 use Rattle.dr_text.specs.Written.{IsWritten, Matches}
 
 sound_front : (items : List Item) (known : Known) (ks : List Kept) (i : ℕ) → AreSound items known ks → AreSound items known (take i ks)
@@ -56,22 +52,3 @@ written_more items old new writer content begins w = record {
   known = w.known ∙ ap (known_of items) (sym (ap (take writer.written) begins.front) ∙ take-take writer.written (length old) new w.within);
   matches = w.matches;
 }
-
--- no types in contexts are there at first
-pub judged_none : (items : List Item) → AreTypesJudged items []
-judged_none items = record { all = tt }
-
-judged_push : (items : List Item) (known : Known) (ks : List Kept) (k : Kept) → HaveJudgedTypes items known ks → HasJudgedType items (known_after items known ks) k
-    → HaveJudgedTypes items known (ks ++ k ∷ [])
-judged_push items known [] k h last = (last, tt)
-judged_push items known (m ∷ ks) k h last = (h.0, judged_push items (with_kept items known m) ks k h.1 last)
-
--- with one record more, which is no context or has a type that is judged
-pub judged_more : (items : List Item) (old new : List Kept) (k : Kept) → new ≡ old ++ k ∷ [] → AreTypesJudged items old → HasJudgedType items (known_of items old) k
-    → AreTypesJudged items new
-judged_more items old new k is h last =
-    let P : List Kept → Type 0 = λ ks. AreTypesJudged items ks in subst P (sym is) (record { all = judged_push items nothing old k h.all last })
-
--- the term of a judgement that is known
-pub judged_by : (known : Known) (j : JudgeId) (s : Judgement) (t : Tree) → Knows known j s → s.term ≡ t → IsJudged known t
-judged_by known j s t knows is = record { number = j.0; live = knows.live; term = ap (λ (q : Judgement). q.term) knows.is ∙ is }

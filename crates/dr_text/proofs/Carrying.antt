@@ -20,7 +20,7 @@ use Rattle.ld_record.specs.Growth.{Knows}
 use Rattle.ld_record.specs.Kept.{with_kept, known_after, known_of, judgement_of, FitsNode, Fits, AreSound, IsSound}
 use Rattle.dr_text.specs.declared.terms.Terms.{Terms}
 use Rattle.dr_text.specs.declared.writer.Writer.{Writer}
-use Rattle.dr_text.specs.Named.{IsNamed, AreTypesJudged}
+use Rattle.dr_text.specs.Named.{IsNamed}
 use Rattle.dr_text.specs.Spelling.{header, record_bytes, records_bytes, spelling}
 use Rattle.dr_text.specs.Written.{Matches, Writes, Pushes, Numbers, Reached, WritesKept, HasTerms, HasNamedTerms, Carries, Appends, last_judgement, entry_record}
 use Rattle.dr_text.proofs.Records.{final-append, stand-append, records_bytes-append, writes_none, writes_then, writes_more}
@@ -128,15 +128,15 @@ carries_none items ks terms out i s matches known = record { writes = writes_non
 
 -- one record more
 pub carries_more : (items : List Item) (ks : List Kept) (old mid new : Terms) (a b c : List ℕ) (from i : ℕ) (k : Kept) → i < length ks → slice_get ks i ≡ Some k
-    → IsSound items ks → AreTypesJudged items ks → Carries items ks old mid a b from i → WritesKept items mid new b c k → Carries items ks old new a c from (i + 1)
-carries_more items ks old mid new a b c from i k below is sound judged first second s matches known =
+    → IsSound items ks → Carries items ks old mid a b from i → WritesKept items mid new b c k → Carries items ks old new a c from (i + 1)
+carries_more items ks old mid new a b c from i k below is sound first second s matches known =
     let here = known_of items (take i ks) in
     let one = first s matches known in
     let x = final s one.writes.records in
     let F : Known → Type 0 = λ kn. Fits items kn k in
     let H : Known → Type 0 = λ kn. HasNamedTerms items kn k in
     let N : Kept → Type 0 = λ n. HasNamedTerms items here n in
-    let names : HasNamedTerms items here k = subst N (get_or_from_slice_get ks i k k is) (names_at items nothing ks i k none_named sound.all judged.all below) in
+    let names : HasNamedTerms items here k = subst N (get_or_from_slice_get ks i k k is) (names_at items nothing ks i k none_named sound.all below) in
     let two = second x one.matches (subst F (sym one.knows) (fits_of items ks i k sound below is)) (subst H (sym one.knows) names) in
     let y = final x two.writes.records in
     let both = writes_then s a b c one.writes two.writes in

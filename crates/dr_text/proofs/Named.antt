@@ -16,7 +16,7 @@ use Rattle.ld_record.specs.declared.record.Kept.{Kept}
 use Rattle.ld_record.specs.declared.record.Kept.TheVariants.{Context, Node, Entry}
 use Rattle.ld_record.specs.Follows.{entry_at, Follows}
 use Rattle.ld_record.specs.Kept.{with_kept, known_after, judgement_of, entry_by, Fits, AreSound}
-use Rattle.dr_text.specs.Named.{IsNamed, AreNamed, HasJudgedType, HaveJudgedTypes}
+use Rattle.dr_text.specs.Named.{IsNamed, AreNamed}
 use Rattle.dr_text.specs.Written.{HasNamedTerms}
 
 params_later : (env : Env) (e : entry.Entry) (k : ℕ) → k < length env → params_at (env ++ e ∷ []) k ≡ params_at env k
@@ -136,16 +136,15 @@ all_named items known [] all sound = all
 all_named items known (k ∷ ks) all sound = all_named items (with_kept items known k) ks (kept_named items known k all sound.0) sound.1
 
 -- the terms of one record
-record_named : (items : List Item) (known : Known) (k : Kept) → AreAllNamed known → Fits items known k → HasJudgedType items known k → HasNamedTerms items known k
-record_named items known (Context c t) all fits judged =
-    let N : Tree → Type 0 = λ u. IsNamed known.env u in subst N judged.term (all.judgements judged.number judged.live).0
-record_named items known (Node judge rule) all fits judged = named_by known (judgement_of items known judge) rule all fits.follows
-record_named items known (Entry name j prim) all fits judged = tt
+record_named : (items : List Item) (known : Known) (k : Kept) → AreAllNamed known → Fits items known k → HasNamedTerms items known k
+record_named items known (Context c t) all fits =
+    let N : Tree → Type 0 = λ u. IsNamed known.env u in subst N fits.judged.term (all.judgements fits.judged.number fits.judged.live).0
+record_named items known (Node judge rule) all fits = named_by known (judgement_of items known judge) rule all fits.follows
+record_named items known (Entry name j prim) all fits = tt
 
 -- the terms of each record, over what is known before it
-pub names_at : (items : List Item) (known : Known) (ks : List Kept) (i : ℕ) (d : Kept) → AreAllNamed known → AreSound items known ks → HaveJudgedTypes items known ks
-    → i < length ks → HasNamedTerms items (known_after items known (take i ks)) (get_or ks i d)
-names_at items known [] i d all sound judged h = absurd (omega arith)
-names_at items known (k ∷ ks) zero d all sound judged h = record_named items known k all sound.0 judged.0
-names_at items known (k ∷ ks) (suc i) d all sound judged h =
-    names_at items (with_kept items known k) ks i d (kept_named items known k all sound.0) sound.1 judged.1 (omega arith)
+pub names_at : (items : List Item) (known : Known) (ks : List Kept) (i : ℕ) (d : Kept) → AreAllNamed known → AreSound items known ks → i < length ks → HasNamedTerms items (known_after items known (take i ks)) (get_or ks i d)
+names_at items known [] i d all sound h = absurd (omega arith)
+names_at items known (k ∷ ks) zero d all sound h = record_named items known k all sound.0
+names_at items known (k ∷ ks) (suc i) d all sound h =
+    names_at items (with_kept items known k) ks i d (kept_named items known k all sound.0) sound.1 (omega arith)

@@ -66,7 +66,7 @@ pub record Pushes (before later : List ℕ) (r : Record) : Type 0 where
   pub bytes : later ≡ before ++ record_bytes r
   pub spelling : HasSpelling r
 
--- The bytes from one length on are the spelling of records that stand from the state on.
+-- The bytes behind those before are the spelling of records that stand from the state on.
 pub record Writes (s : State) (before later : List ℕ) : Type 0 where
   pub records : List Record
   pub spelled : later ≡ before ++ records_bytes records
@@ -102,14 +102,17 @@ pub record JustWritten (items : List Item) (s : State) (terms : Terms) (before l
   pub matches : Matches items terms before_it
   pub reached : final s writes.records ≡ record before_it { terms = before_it.terms ++ t ∷ [] }
 
+-- from any state that the numbers match on, the term is written and has this number
 abbrev pub Numbers : List Item → Terms → Terms → List ℕ → List ℕ → Tree → ℕ → Type 0
 Numbers items old new before later t n =
     (s : State) → Matches items old s → IsNamed s.known.env t → Numbered items s new before later t n
 
+-- the same of the terms of a list
 abbrev pub NumbersAll : List Item → Terms → Terms → List ℕ → List ℕ → Trees → List ℕ → Type 0
 NumbersAll items old new before later us ns =
     (s : State) → Matches items old s → AreNamed s.known.env us → AllNumbered items s new before later us ns
 
+-- from any such state on, the term is written, as the last one
 abbrev pub WritesTerm : List Item → Terms → Terms → List ℕ → List ℕ → Tree → Type 0
 WritesTerm items old new before later t =
     (s : State) → Matches items old s → IsNamed s.known.env t → JustWritten items s new before later t
@@ -137,6 +140,7 @@ pub record Reached (items : List Item) (s : State) (terms : Terms) (before later
   pub knows : (final s writes.records).known ≡ known
   pub matches : Matches items terms (final s writes.records)
 
+-- from any such state on, a kept record is written, behind the terms that it names
 abbrev pub WritesKept : List Item → Terms → Terms → List ℕ → List ℕ → Kept → Type 0
 WritesKept items old new before later k =
     (s : State) → Matches items old s → Fits items s.known k → HasNamedTerms items s.known k →

@@ -5,7 +5,6 @@ ghost use Rattle.ld_terms.specs.Bank.{StandsFor};
 ghost use Rattle.ld_terms.specs.Known.{nothing, no_judgement, with_node};
 ghost use Rattle.ld_record.specs.Kept.{known_of, IsSound};
 ghost use Rattle.ld_record.specs.Growth.{Knows};
-ghost use Rattle.dr_text.specs.Named.{AreTypesJudged};
 ghost use Rattle.dr_text.specs.Written.{last_judgement};
 
 use crate::{Writer, header};
@@ -28,7 +27,6 @@ fn start(
     ensures known { OnOk result (known_of bank.now deriv.new ≡ with_node nothing no_judgement) }
     ensures number { IfOk result (λ j. j.0 ≡ 0) }
     ensures sound { IsSound bank.now deriv.new }
-    ensures judged { OnOk result (AreTypesJudged bank.now deriv.new) }
 {
     let judge = Judge {
         entries: 0,
@@ -49,7 +47,6 @@ fn primitive(
     j: JudgeId,
 ) -> Result<JudgeId, NoMemory>
     requires sound { IsSound bank.now deriv.old }
-    requires judged { AreTypesJudged bank.now deriv.old }
     requires known { known_of bank.now deriv.old ≡ with_node nothing no_judgement }
     requires number { j.0 ≡ 0 }
     requires some { 0 < length name }
@@ -58,7 +55,6 @@ fn primitive(
     requires box_sort { StandsFor bank.now box_sort tree.Box }
     ensures number { IfOk result (λ k. Knows (known_of bank.now deriv.new) k (last_judgement (known_of bank.now deriv.new))) }
     ensures sound { IsSound bank.now deriv.new }
-    ensures judged { OnOk result (AreTypesJudged bank.now deriv.new) }
 {
     deriv.entry(bank, name, j, true)?;
     let judge = Judge {
@@ -73,7 +69,6 @@ fn primitive(
 // All that a writer writes of a derivation, with its end.
 fn written(alloc: Global, bank: &Bank, deriv: &Deriv, last: JudgeId) -> Result<Vec<u8>, Fail>
     requires sound { IsSound bank.now deriv.now }
-    requires judged { AreTypesJudged bank.now deriv.now }
     requires last { Knows (known_of bank.now deriv.now) last (last_judgement (known_of bank.now deriv.now)) }
 {
     let mut out = header().to_vec(alloc)?;

@@ -3,7 +3,6 @@ ghost use Rattle.std.specs.Prelude.{◌≡◌, ◌≤◌, List, ℕ, [], length,
 ghost use Rattle.ld_terms.specs.Item.{Item};
 ghost use Rattle.ld_record.specs.Kept.{IsSound, known_of};
 ghost use Rattle.ld_record.specs.Growth.{Knows};
-ghost use Rattle.dr_text.specs.Named.{AreTypesJudged};
 ghost use Rattle.dr_text.specs.Spelling.{header};
 ghost use Rattle.dr_text.specs.Written.{IsWritten, Appends, last_judgement, Carries, WritesKept, HasTerms};
 
@@ -41,7 +40,6 @@ impl Writer {
         out: &mut Vec<u8>,
     ) -> Result<(), NoMemory>
         requires sound { IsSound bank.now deriv.now }
-        requires contexts { AreTypesJudged bank.now deriv.now }
         requires written { self.old.written ≤ length deriv.now }
         requires ended { IfSome ended (λ j. Knows (known_of bank.now deriv.now) j (last_judgement (known_of bank.now deriv.now))) }
         ensures { OnOk result (Appends bank.now deriv.now self.old self.new out.old.items out.new.items ended) }
@@ -56,7 +54,6 @@ impl Writer {
     // Appends all records that are not written.
     fn records(&mut self, bank: &Bank, deriv: &Deriv, out: &mut Vec<u8>) -> Result<(), NoMemory>
         requires sound { IsSound bank.now deriv.now }
-        requires contexts { AreTypesJudged bank.now deriv.now }
         requires written { self.old.written ≤ length deriv.now }
         ensures carries { OnOk result (Carries bank.now deriv.now self.old.terms self.new.terms out.old.items out.new.items
             self.old.written (length deriv.now)) }

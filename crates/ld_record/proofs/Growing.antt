@@ -1,7 +1,7 @@
 -- Contexts, judgements and entries are only added, so that what a number stands for stays.
 use Rattle.std.proofs.Common.{◌≡◌, ◌<◌, ◌≤◌, ◌+◌, ℕ, zero, suc, Bool, true, false, List, [], ◌∷◌, ◌++◌, length, get_or, refl, ap, sym, ◌∙◌, subst, arith, add-zero}
 use Rattle.std.proofs.lemmas.List.{get_or_append_left, get_or_at, length_push}
-use Rattle.ld_terms.specs.Tree.{Trees, Nil, ◌▸◌}
+use Rattle.ld_terms.specs.Tree.{Tree, Trees, Nil, ◌▸◌}
 use Rattle.ld_terms.specs.Item.{Item, tree}
 use Rattle.ld_terms.specs.Bank.{tree_at, Extends}
 use Rattle.ld_terms.proofs.Banks.{term_at_later}
@@ -15,7 +15,7 @@ use Rattle.ld_record.specs.declared.record.Step.{Step}
 use Rattle.ld_record.specs.declared.record.Kept.{Kept}
 use Rattle.ld_record.specs.declared.record.Kept.TheVariants.{Context, Node, Entry}
 use Rattle.ld_record.specs.Follows.{entry_at, IsDefined, Follows}
-use Rattle.ld_record.specs.Kept.{judgement_of, entry_by, with_kept, known_after, known_of, HasNumbers, FitsNode, Fits, AreSound, IsSound}
+use Rattle.ld_record.specs.Kept.{IsJudged, judgement_of, entry_by, with_kept, known_after, known_of, HasNumbers, FitsNode, Fits, AreSound, IsSound}
 use Rattle.ld_record.specs.Tables.{judges_of, prims_of}
 use Rattle.ld_record.specs.Growth.{Knows, KnowsContext, IsNodeOf, Adds}
 use Rattle.ld_record.proofs.Keeping.{nodes_known}
@@ -254,7 +254,9 @@ pub known_later : (old new : List Item) (ks : List Kept) → Extends old new →
 known_later old new ks e h = known_afters_later old new nothing ks e h.all
 
 fits_later : (old new : List Item) (known : Known) (k : Kept) → Extends old new → Fits old known k → Fits new known k
-fits_later old new known (Context c t) e h = record { context = h.context; term = term_at_later old new t e h.term }
+fits_later old new known (Context c t) e h =
+    let J : Item → Type 0 = λ x. IsJudged known (tree x) in
+    record { context = h.context; term = term_at_later old new t e h.term; judged = subst J (sym (e.kept t h.term.live)) h.judged }
 fits_later old new known (Node judge step) e h =
     let Q : Judgement → Type 0 = λ q. Follows known q step in
     record {
@@ -276,3 +278,7 @@ are_sound_later old new known (k ∷ ks) e h =
 
 pub sound_later : (old new : List Item) (ks : List Kept) → Extends old new → IsSound old ks → IsSound new ks
 sound_later old new ks e h = record { all = are_sound_later old new nothing ks e h.all }
+
+-- the term of a judgement that is known
+pub judged_by : (known : Known) (j : JudgeId) (s : Judgement) (t : Tree) → Knows known j s → s.term ≡ t → IsJudged known t
+judged_by known j s t knows is = record { number = j.0; live = knows.live; term = ap (λ (q : Judgement). q.term) knows.is ∙ is }

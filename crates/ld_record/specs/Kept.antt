@@ -1,6 +1,6 @@
 -- What the records of a derivation say, over the items of a bank, and when each is an instance of its rule.
 use Rattle.std.specs.Prelude.{◌≡◌, ◌<◌, ◌≤◌, ℕ, Bool, true, false, List, [], ◌∷◌, length, take}
-use Rattle.ld_terms.specs.Tree.{◌▸◌}
+use Rattle.ld_terms.specs.Tree.{Tree, ◌▸◌}
 use Rattle.ld_terms.specs.Item.{Item}
 use Rattle.ld_terms.specs.Bank.{tree_at, IsTermAt}
 use Rattle.ld_terms.specs.Entry as named
@@ -41,9 +41,17 @@ known_after items known (k ∷ ks) = known_after items (with_kept items known k)
 abbrev pub known_of : List Item → List Kept → Known
 known_of items kept = known_after items nothing kept
 
+-- the tree is the term of a judgement
+pub record IsJudged (known : Known) (t : Tree) : Type 0 where
+  pub number : ℕ
+  pub live : number < length known.nodes
+  pub term : (judgement_at known number).term ≡ t
+
+-- a context is there, and is extended by the term of a judgement
 pub record FitsContext (items : List Item) (known : Known) (c : CtxId) (t : TermId) : Type 0 where
   pub context : c.0 < length known.contexts
   pub term : IsTermAt items t
+  pub judged : IsJudged known (tree_at items t)
 
 -- the numbers are those of terms, of a context and of entries
 pub record HasNumbers (items : List Item) (known : Known) (judge : Judge) : Type 0 where

@@ -1,10 +1,8 @@
 use Rattle.std.proofs.Common.{◌<◌, ◌≤◌, ℕ, List, length, true, refl, sym, subst, arith}
 use Rattle.std.proofs.lemmas.List.Elements.{All-nil}
-use Rattle.std.proofs.lemmas.Result.{on_ok_weaker}
 use Rattle.ld_terms.specs.Derivable.{IsSort}
 use Rattle.ld_terms.specs.Known.{Known, nothing, no_judgement, with_node}
 use Rattle.ld_record.specs.Kept.{FitsEntry}
-use Rattle.dr_text.proofs.CallerLemmas.{judged_more}
 use Rattle.dr_text.proofs.tests.primitive.Goals as goal
 
 -- over the first judgement any name may be that of a primitive
@@ -19,10 +17,3 @@ entry-requires-clause-fits c =
     let P : Known → Type 0 = λ k. FitsEntry k c.args.name c.args.j true in
     let Q : ℕ → Type 0 = λ n. FitsEntry (with_node nothing no_judgement) c.args.name (record { 0 = n }) true in
     subst P (sym c.requires.known) (subst Q (sym c.requires.number) (fits_first c.args.name c.requires.some c.requires.short))
-
-pub returns-clause-judged : goal.returns-clause-judged
-returns-clause-judged c =
-    on_ok_weaker c.emit.result
-    (λ kept. judged_more c.args.bank.now c.entry.new.self c.emit.new.self _ kept
-    (judged_more c.args.bank.now c.args.deriv.now c.entry.new.self _ c.in_ok-entry.ensures.kept c.requires.judged tt) tt)
-    c.emit.ensures.kept

@@ -12,14 +12,18 @@ use Rattle.ld_record.specs.declared.record.Kept.{Kept}
 use Rattle.ld_record.specs.declared.record.Step.TheVariants.{Weak}
 use Rattle.ld_record.specs.Kept.{known_of}
 use Rattle.ld_record.specs.Growth.{Knows, KnowsContext, Adds}
-use Rattle.ld_record.proofs.Growing.{knows_later}
+use Rattle.ld_record.proofs.Growing.{knows_later, judged_by}
 use Rattle.ld_record.proofs.CallerLemmas.{Says, said, node_fits, empty_known}
 use Rattle.ld_record.proofs.tests.weakened.Goals as goal
 
 pub extend-requires-clause-fits : goal.extend-requires-clause-fits
 extend-requires-clause-fits c =
     let empty = empty_known c.args.bank.now c.args.deriv.now c.empty-empty.result c.empty-empty.ensures in
-    record { context = empty.live; term = record { live = c.requires.a.live; form = subst IsOne (sym c.requires.a.item) tt } }
+    record {
+      context = empty.live;
+      term = record { live = c.requires.a.live; form = subst IsOne (sym c.requires.a.item) tt };
+      judged = judged_by (known_of c.args.bank.now c.args.deriv.now) c.args.j _ (tree_at c.args.bank.now c.args.a) c.requires.typed (sym (ap tree c.requires.a.item));
+    }
 
 abbrev weakened : Judgement
 weakened = record { entries = 1; context = Nil ▸ Const 0 Nil; term = Const 0 Nil; type = Star }

@@ -14,7 +14,7 @@ pub loop-place-preserved : goal.loop-place-preserved
 loop-place-preserved c = (
   carries_more c.args.bank.now c.args.deriv.now c.args.self.now.terms c.loop-place.self.terms c.push_kept.new.terms
       c.args.out.now.items c.loop-place.out.items c.push_kept.new.out.items c.args.self.now.written c.loop-place.place c.kept.result.now
-      (omega arith) c.kept.ensures c.requires.sound c.requires.contexts c.loop-place.invariant.0 (c.in_ok-push_kept.ensures {u = tt}),
+      (omega arith) c.kept.ensures c.requires.sound c.loop-place.invariant.0 (c.in_ok-push_kept.ensures {u = tt}),
   c.loop-place.invariant.1,
 )
 
