@@ -5,7 +5,7 @@ use std::test::Fail;
 
 #[test]
 fn tokens(rt: HostRuntime) -> Result<(), Fail> {
-    let text = "f(\u{3b1}') (_ :=# |\r\n->";
+    let text = "f(\u{3b1}') (_ :=# |\r\n->".as_bytes();
     let wanted = [
         (Kind::Name, 0, 1),
         (Kind::Touching, 1, 2),
@@ -20,7 +20,7 @@ fn tokens(rt: HostRuntime) -> Result<(), Fail> {
     ];
     let mut prev = None;
     for (kind, start, end) in wanted {
-        let token = match next_token(text.as_bytes(), prev) {
+        let token = match next_token(text, prev) {
             Ok(token) => token,
             Err(_) => break,
         };
