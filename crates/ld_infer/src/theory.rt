@@ -47,6 +47,9 @@ impl Model for Theory {
 }
 
 impl Theory {
+    ghost use Rattle.std.specs.Prelude.{◌↔◌};
+    ghost use Rattle.ld_terms.specs.Item.{IsSmall};
+    ghost use Rattle.ld_terms.specs.Bank.{item_at};
     ghost use Rattle.ld_record.specs.Kept.{IsSound, FitsEntry, entry_by};
     ghost use Rattle.ld_record.specs.Growth.{Knows, Adds};
     ghost use Rattle.ld_record.specs.Follows.{Follows};
@@ -122,6 +125,8 @@ impl Theory {
     pub fn add(&mut self, node: Node) -> Result<TermId, TermFault>
         requires { HasParts self.old.items node }
         ensures tree { IfOk result (λ t. Holds self.new.items t (item_of self.old.items node)) }
+        ensures small { IfOk result (λ t. IsSmall (item_at self.new.items t)) }
+        ensures high { (result ≡ Err TermFault.High) ↔ ¬ IsSmall (item_of self.old.items node) }
         ensures continues { Continues self.old self.new }
     {
         self.bank.add(node)
