@@ -61,6 +61,7 @@ impl Theory {
         ensures known { IfOk result (λ theory. Adds nothing (known theory)) }
         ensures context { IfOk result (λ theory. context theory ≡ Nil) }
         ensures entries { IfOk result (λ theory. theory.entries ≡ []) }
+        ensures sound { IfOk result (λ theory. IsSound theory.items theory.kept) }
     {
         let mut bank = Bank::new(alloc);
         let mut deriv = Deriv::new(alloc);
