@@ -1,27 +1,26 @@
 -- The forms of a body, entries and items as parts one behind the other.
-use Rattle.std.proofs.Common.{nat_eq, eq-eqb, ◌≡◌, ℕ, suc, ◌+◌, ◌<◌, ◌≤◌, Bool, true, false, List, [], ◌∷◌, ◌++◌, Option, Some, Result, Ok, Err, MatchResult, ◌⊎◌, inl, inr, refl, ap, ◌∙◌, sym, subst, arith}
+use Rattle.std.proofs.Common.{nat_eq, eq-eqb, ◌≡◌, ℕ, Bool, true, false, List, [], ◌∷◌, refl, ap, ◌∙◌, sym, subst}
 use Rattle.std.specs.Prelude.{codes}
 use Rattle.std.proofs.lemmas.Bool.{false≢true}
 use Rattle.fb_lex.specs.declared.tokens.Kind.{Kind}
 use Rattle.fb_lex.specs.declared.tokens.Kind.TheVariants as k
 use Rattle.fb_lex.specs.declared.tokens.Token.{Token}
-use Rattle.fb_lex.specs.Tokens.{IsNext, IsFault, is_end, is_name}
-use Rattle.fb_lex.specs.TokenList.{Lexeme, sign, name, seen, lexeme, between, Reads}
+use Rattle.fb_lex.specs.TokenList.{Lexeme, sign, name, seen, between, Reads}
 use Rattle.fb_parse.specs.declared.fault.ParseFault.{ParseFault}
-use Rattle.fb_parse.specs.declared.fault.ParseFault.TheVariants.{Lex, Syntax, Deep, ManyItems, Memory}
-use Rattle.fb_parse.specs.Grammar.{Surface, Surfaces, none, more, span, Term, Terms}
+use Rattle.fb_parse.specs.declared.fault.ParseFault.TheVariants.{Syntax}
+use Rattle.fb_parse.specs.Grammar.{Surface, Surfaces, more, span, Term}
 use Rattle.fb_parse.specs.Items as g
 use Rattle.fb_parse.specs.Items.{SurfaceArg, SurfaceBody, SurfaceKind, SurfaceItem, IsArg, MoreArgs, IsArgs, IsFilling, IsWay, IsBody, IsEntry, IsItem}
-use Rattle.fb_parse.specs.Reading.{Begins, BeginsNone, Read, Fails}
-use Rattle.fb_parse.specs.Parts.{Is, IsSign, IsName, IsWord, Then, After, NextOrFault, anywhere, begins_term, behind_term, behind_terms, TermIs, SomeTerm, TermsAre, SomeTerms}
-use Rattle.fb_parse.specs.ItemParts.{ArgIs, SomeArg, MoreArgsAre, SomeMoreArgs, ArgsAre, SomeArgs, FillingIs, SomeFilling, WayIs, SomeWay, BodyIs, SomeBody, EntryIs, SomeEntry, ItemIs, SomeItem, IsWordAt, begins_item}
-use Rattle.fb_parse.proofs.Calculus.{Part, Stop, Follows, Names, Back, then_read, then_fails, then_fails_first, seen_as, fails_as, fault_behind, nothing_read, begins_first, lexeme_kind, lexeme_name, seen_sign, seen_name}
-use Rattle.fb_parse.proofs.Single.{begins_sign, begins_name, tails, heads}
-use Rattle.fb_parse.proofs.Shapes.{first_is, seen_first, terms_to_term, term_first, term_done, star_term}
+use Rattle.fb_parse.specs.Reading.{Begins, Read, Fails}
+use Rattle.fb_parse.specs.Parts.{Is, IsSign, IsName, IsWord, Then, anywhere, begins_term, behind_term, behind_terms, TermIs, SomeTerm, TermsAre, SomeTerms}
+use Rattle.fb_parse.specs.ItemParts.{FillingIs, SomeFilling, WayIs, SomeWay, BodyIs, SomeBody, EntryIs, SomeEntry, ItemIs, SomeItem, IsWordAt}
+use Rattle.fb_parse.proofs.Calculus.{Part, Follows, Names, Back, then_read, then_fails, then_fails_first, seen_as, fails_as, begins_first, lexeme_kind, seen_sign, seen_name}
+use Rattle.fb_parse.proofs.Single.{begins_sign, begins_name, heads}
+use Rattle.fb_parse.proofs.Shapes.{first_is, terms_to_term, term_first, term_done, star_term}
 use Rattle.fb_parse.proofs.Built.{any_follows, same_stop}
 use Rattle.fb_parse.proofs.Leaves.{paren_follows, sign_is}
 use Rattle.fb_parse.proofs.Listed.{terms_done}
-use Rattle.fb_parse.proofs.Arguments.{seen_word, word_seen, name_bytes, begins_word, as_part, read_weak, fails_weak}
+use Rattle.fb_parse.proofs.Arguments.{seen_word, word_seen, name_bytes, as_part, read_weak, fails_weak}
 
 -- a word of one form at the token of another
 clash : {word w x y : List ℕ} {s e s0 e0 : ℕ} {z : Lexeme} {ts us : List Lexeme} → word ≡ x → w ≡ y → name word s e ∷ ts ≡ z ∷ us → z ≡ name w s0 e0 → x ≡ y

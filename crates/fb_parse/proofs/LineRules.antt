@@ -1,5 +1,5 @@
 -- Lines of a book, one token or one item at a time.
-use Rattle.std.proofs.Common.{◌≡◌, ℕ, suc, ◌+◌, ◌-◌, ◌<◌, ◌≤◌, Bool, true, false, if◌then◌else◌, List, [], ◌∷◌, ◌++◌, length, Option, Some, None, Result, Err, refl, ap, ◌∙◌, sym, subst, arith, append_assoc}
+use Rattle.std.proofs.Common.{◌≡◌, ℕ, suc, ◌+◌, ◌≤◌, Bool, true, false, if◌then◌else◌, List, [], ◌∷◌, ◌++◌, length, Some, None, Err, refl, ap, ◌∙◌, sym, subst, arith, append_assoc}
 use Rattle.std.proofs.lemmas.Bool.{false≢true}
 use Rattle.std.proofs.lemmas.List.{append-nil}
 use Rattle.fb_lex.specs.declared.tokens.Kind.{Kind}
@@ -7,20 +7,18 @@ use Rattle.fb_lex.specs.declared.tokens.Kind.TheVariants as k
 use Rattle.fb_lex.specs.declared.tokens.Token.{Token}
 use Rattle.fb_lex.specs.declared.tokens.LexFault.{LexFault}
 use Rattle.fb_lex.specs.Tokens.{IsNext, IsFault, is_end, is_name}
-use Rattle.fb_lex.specs.TokenList.{Lexeme, sign, name, seen, lexeme, left, Reads, TokensBehind, Tokens, Whole, Faulty}
+use Rattle.fb_lex.specs.TokenList.{Lexeme, sign, name, seen, lexeme, left, Reads, TokensBehind}
 use Rattle.fb_parse.specs.declared.fault.ParseFault.{ParseFault}
-use Rattle.fb_parse.specs.declared.fault.ParseFault.TheVariants.{Lex, Syntax, Deep, ManyItems, Memory}
-use Rattle.fb_parse.specs.Grammar.{span}
-use Rattle.fb_parse.specs.Items as g
+use Rattle.fb_parse.specs.declared.fault.ParseFault.TheVariants.{Lex, Syntax, ManyItems}
 use Rattle.fb_parse.specs.Items.{SurfaceItem, IsEntry, IsItem, IsLines, ends_line}
 use Rattle.fb_parse.specs.Reading.{Begins, BeginsNone, Read, Fails}
 use Rattle.fb_parse.specs.Parts.{NextOrFault, behind_term, ends_term}
 use Rattle.fb_parse.specs.ItemParts.{ItemIs, SomeItem, begins_item}
 use Rattle.fb_parse.specs.Lines.{LinesAre, BeginsLines, NoLines, LinesFail}
-use Rattle.fb_parse.specs.Texts.{IsBookText, BeginsBook, StartsWith, Refuses}
+use Rattle.fb_parse.specs.Texts.{IsBookText, BeginsBook, Refuses}
 use Rattle.fb_parse.specs.declared.tree.Item.{Item}
 use Rattle.fb_parse.specs.ItemView.{item_view, items_view, before_items}
-use Rattle.fb_parse.proofs.Calculus.{Part, Stop, starts, reads_append, lexeme_kind, seen_sign}
+use Rattle.fb_parse.proofs.Calculus.{starts, reads_append, lexeme_kind, seen_sign}
 use Rattle.fb_parse.proofs.Single.{tails, heads}
 use Rattle.fb_parse.proofs.Shapes.{first_is, seen_first, star_term}
 use Rattle.fb_parse.proofs.Whole.{tokens_of, tokens_to_fault}

@@ -1,18 +1,17 @@
 -- The spans and names of a tree lie in its text, since the tokens of the text lie one behind the other.
-use Rattle.std.proofs.Common.{◌≡◌, ℕ, suc, ◌+◌, ◌-◌, ◌<◌, ◌≤◌, min, Bool, true, false, List, [], ◌∷◌, ◌++◌, length, take, drop, Option, Some, None, refl, ap, ◌∙◌, sym, subst, arith, length-drop}
+use Rattle.std.proofs.Common.{◌≡◌, ℕ, ◌-◌, ◌<◌, ◌≤◌, true, false, List, [], ◌∷◌, length, drop, Option, Some, refl, arith, length-drop}
 use Rattle.std.proofs.lemmas.Bool.{false≢true}
 use Rattle.std.proofs.lemmas.List.{length-take}
 use Rattle.fb_base.specs.declared.places.Span.{Span}
 use Rattle.fb_lex.specs.declared.tokens.Kind.{Kind}
 use Rattle.fb_lex.specs.declared.tokens.Kind.TheVariants as k
 use Rattle.fb_lex.specs.declared.tokens.Token.{Token}
-use Rattle.fb_lex.specs.Tokens.{IsNext, is_end, is_name, end_of, between}
+use Rattle.fb_lex.specs.Tokens.{is_end, is_name, end_of, between}
 use Rattle.fb_lex.specs.TokenList.{Lexeme, sign, name, seen, lexeme, TokensBehind, Ending}
 use Rattle.fb_lex.specs.Placed.{IsPlaced}
 use Rattle.fb_lex.proofs.NextPlaced.{next_placed}
-use Rattle.fb_parse.specs.Grammar as g
 use Rattle.fb_parse.specs.Grammar.{Surface, Surfaces, none, more, span, applied, Term, App, Atoms, Atom, Terms, MoreTerms}
-use Rattle.fb_parse.specs.Items.{SurfaceArg, SurfaceBody, SurfaceKind, SurfaceItem, IsArg, MoreArgs, IsArgs, IsFilling, IsWay, IsBody, IsEntry, IsItem, IsLines, ends_line}
+use Rattle.fb_parse.specs.Items.{SurfaceArg, SurfaceBody, SurfaceKind, SurfaceItem, IsArg, MoreArgs, IsArgs, IsFilling, IsWay, IsBody, IsEntry, IsItem, IsLines}
 use Rattle.fb_parse.specs.Standing.{IsNameBytes, LiesIn, HoldsName, count, TermStands, TermsStand, ArgStands, ArgsStand, BodyStands, KindStands, ItemStands, ItemsStand}
 use Rattle.fb_parse.specs.Texts.{IsTermText, IsBookText}
 

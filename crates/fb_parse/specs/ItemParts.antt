@@ -1,10 +1,10 @@
 -- The parts of the grammar of items.
-use Rattle.std.specs.Prelude.{◌≡◌, ℕ, suc, ◌+◌, ◌≤◌, Bool, true, false, List, [], ◌∷◌}
+use Rattle.std.specs.Prelude.{◌≡◌, ℕ, Bool, true, false, List}
 use Rattle.fb_lex.specs.declared.tokens.Kind.{Kind}
 use Rattle.fb_lex.specs.declared.tokens.Kind.TheVariants as k
 use Rattle.fb_lex.specs.declared.tokens.Token.{Token}
 use Rattle.fb_lex.specs.Tokens.{between}
-use Rattle.fb_lex.specs.TokenList.{Lexeme, sign, name}
+use Rattle.fb_lex.specs.TokenList.{Lexeme}
 use Rattle.fb_parse.specs.Items.{SurfaceArg, SurfaceBody, SurfaceKind, SurfaceItem, IsArg, MoreArgs, IsArgs, IsFilling, IsWay, IsBody, IsEntry, IsItem}
 
 abbrev pub ArgIs : SurfaceArg → (limit : ℕ) → List Lexeme → List Lexeme → Type 0

@@ -1,5 +1,5 @@
 -- The items of the code over a text, seen as the grammar's.
-use Rattle.std.specs.Prelude.{◌≡◌, ℕ, List, [], ◌∷◌}
+use Rattle.std.specs.Prelude.{ℕ, List, [], ◌∷◌}
 use Rattle.fb_base.specs.declared.places.Span.{Span}
 use Rattle.fb_lex.specs.Tokens.{between}
 use Rattle.fb_parse.specs.declared.tree.Arg.{Arg}

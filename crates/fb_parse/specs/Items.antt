@@ -1,5 +1,5 @@
 -- The grammar of items and books, over whole lists of tokens.
-use Rattle.std.specs.Prelude.{◌≡◌, ℕ, suc, ◌+◌, ◌<◌, ◌≤◌, Bool, true, false, List, [], ◌∷◌, codes}
+use Rattle.std.specs.Prelude.{◌≡◌, ℕ, ◌+◌, Bool, true, false, List, [], ◌∷◌, codes}
 use Rattle.fb_base.specs.declared.places.Span.{Span}
 use Rattle.fb_lex.specs.declared.tokens.Kind.{Kind}
 use Rattle.fb_lex.specs.declared.tokens.Kind.TheVariants as k

@@ -1,10 +1,10 @@
 -- Texts that are a term or a book, and why a text is none.
-use Rattle.std.specs.Prelude.{◌≡◌, ℕ, suc, ◌+◌, ◌≤◌, List, [], ◌∷◌, ◌++◌, length, Option, Some, None}
+use Rattle.std.specs.Prelude.{ℕ, suc, ◌≤◌, List, [], ◌∷◌, ◌++◌, length, None}
 use Rattle.fb_lex.specs.declared.tokens.Kind.TheVariants as k
 use Rattle.fb_lex.specs.declared.tokens.Token.{Token}
 use Rattle.fb_lex.specs.declared.tokens.LexFault.{LexFault}
-use Rattle.fb_lex.specs.Tokens.{IsNext, is_end}
-use Rattle.fb_lex.specs.TokenList.{Lexeme, sign, seen, Tokens, TokensBehind, Ending, Whole, Faulty, Reads}
+use Rattle.fb_lex.specs.Tokens.{IsNext}
+use Rattle.fb_lex.specs.TokenList.{Lexeme, sign, seen, Tokens, Whole, Faulty, Reads}
 use Rattle.fb_parse.specs.declared.fault.ParseFault.{ParseFault}
 use Rattle.fb_parse.specs.declared.fault.ParseFault.TheVariants.{Lex, Syntax, Deep, ManyItems, Memory}
 use Rattle.fb_parse.specs.Grammar.{Surface, Term}

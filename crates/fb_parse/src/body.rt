@@ -93,11 +93,7 @@ fn intro<'a>(text: &'a [u8], at: Token) -> Result<BodyPart<'a>, ParseFault>
     })
 }
 
-fn elimination<'a>(
-    arena: &'a Bump,
-    text: &'a [u8],
-    at: Token,
-) -> Result<BodyPart<'a>, ParseFault>
+fn elimination<'a>(arena: &'a Bump, text: &'a [u8], at: Token) -> Result<BodyPart<'a>, ParseFault>
     requires stands { Stands text.now at }
     requires is { IsWordAt text.now at (codes "elim") }
     ensures read { MatchResult result (λ p. Read text.now (WayIs (body_view text.now p.body)) SomeWay behind_terms at p.next) (Fails text.now SomeWay behind_terms at) }

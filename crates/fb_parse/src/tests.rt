@@ -49,9 +49,15 @@ fn of_book(arena: &Bump, text: &[u8]) -> Outcome
 #[test]
 fn terms(rt: HostRuntime) -> Result<(), Fail> {
     let arena = Bump::new(rt.alloc());
-    assert_eq!(rt; of_term(&arena, b"fun x : A . f (g x) y -> c(A, *) # end"), Outcome::Term);
+    assert_eq!(rt;
+        of_term(&arena, b"fun x : A . f (g x) y -> c(A, *) # end"),
+        Outcome::Term
+    );
     assert_eq!(rt; of_term(&arena, b"all x:box.x'"), Outcome::Term);
-    assert_eq!(rt; of_term(&arena, "\u{3b1}\u{3b2} (x)".as_bytes()), Outcome::Term);
+    assert_eq!(rt;
+        of_term(&arena, "\u{3b1}\u{3b2} (x)".as_bytes()),
+        Outcome::Term
+    );
     assert_eq!(rt; of_term(&arena, b"f )"), Outcome::Syntax(2));
     assert_eq!(rt; of_term(&arena, b"f x y ->"), Outcome::Syntax(8));
     assert_eq!(rt; of_term(&arena, b"f x : A"), Outcome::Syntax(4));
@@ -72,13 +78,25 @@ fn books(rt: HostRuntime) -> Result<(), Fail> {
     assert_eq!(rt; of_book(&arena, b"\n\n"), Outcome::Items(0));
     assert_eq!(rt; of_book(&arena, b"| |\n|"), Outcome::Items(0));
     assert_eq!(rt; of_book(&arena, b"A := prim : *"), Outcome::Items(1));
-    assert_eq!(rt; of_book(&arena, b"\nA := prim : *\n\n| [y : A]\n"), Outcome::Items(2));
-    assert_eq!(rt; of_book(&arena, b"x := fun a : * . a : *"), Outcome::Items(1));
+    assert_eq!(rt;
+        of_book(&arena, b"\nA := prim : *\n\n| [y : A]\n"),
+        Outcome::Items(2)
+    );
+    assert_eq!(rt;
+        of_book(&arena, b"x := fun a : * . a : *"),
+        Outcome::Items(1)
+    );
     assert_eq!(rt; of_book(&arena, b"x := by intro w : A"), Outcome::Items(1));
-    assert_eq!(rt; of_book(&arena, b"x := by elim f, a : A"), Outcome::Items(1));
+    assert_eq!(rt;
+        of_book(&arena, b"x := by elim f, a : A"),
+        Outcome::Items(1)
+    );
     assert_eq!(rt; of_book(&arena, b"x := by same t : A"), Outcome::Items(1));
     assert_eq!(rt; of_book(&arena, b"x := by use c : A"), Outcome::Items(1));
-    assert_eq!(rt; of_book(&arena, b"x := by use c(_, u) : A"), Outcome::Items(1));
+    assert_eq!(rt;
+        of_book(&arena, b"x := by use c(_, u) : A"),
+        Outcome::Items(1)
+    );
     Ok(())
 }
 
@@ -89,7 +107,10 @@ fn faults(rt: HostRuntime) -> Result<(), Fail> {
     assert_eq!(rt; of_book(&arena, b"x := $ : *"), Outcome::BadByte(5));
     assert_eq!(rt; of_book(&arena, b"x := by elim f : A"), Outcome::Syntax(15));
     assert_eq!(rt; of_book(&arena, b"x := by some w : A"), Outcome::Syntax(8));
-    assert_eq!(rt; of_book(&arena, b"x := by use c (u) : A"), Outcome::Syntax(14));
+    assert_eq!(rt;
+        of_book(&arena, b"x := by use c (u) : A"),
+        Outcome::Syntax(14)
+    );
     assert_eq!(rt; of_book(&arena, b"x := c(_) : A"), Outcome::Syntax(7));
     assert_eq!(rt; of_book(&arena, b"[x : *] y"), Outcome::Syntax(8));
     assert_eq!(rt; of_book(&arena, b"A := prim *"), Outcome::Syntax(10));
@@ -121,8 +142,14 @@ fn span(start: usize, end: usize) -> Span {
 fn spans(rt: HostRuntime) -> Result<(), Fail> {
     let arena = Bump::new(rt.alloc());
     let text = b"| |[x : (A)] # flag\n|y := by intro w : A";
-    assert_eq!(rt; outline(&arena, text, 0), Some((2, span(4, 5), span(3, 12), span(9, 10))));
-    assert_eq!(rt; outline(&arena, text, 1), Some((1, span(21, 22), span(21, 40), span(39, 40))));
+    assert_eq!(rt;
+        outline(&arena, text, 0),
+        Some((2, span(4, 5), span(3, 12), span(9, 10)))
+    );
+    assert_eq!(rt;
+        outline(&arena, text, 1),
+        Some((1, span(21, 22), span(21, 40), span(39, 40)))
+    );
     assert_eq!(rt; outline(&arena, text, 2), None);
     Ok(())
 }

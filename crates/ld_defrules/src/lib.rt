@@ -1,7 +1,7 @@
 //! Items of a book judged by the rules for definitions: a primitive, a line.
 #![tactic(auto)]
 
-ghost use Rattle.std.specs.Prelude.{◌≡◌, ◌<◌, ◌≤◌, ◌+◌, ◌^◌, ◌↔◌, List, length, Contains, IsTrue, false, IfOk, OnErr, MatchResult};
+ghost use Rattle.std.specs.Prelude.{◌≡◌, ◌<◌, ◌≤◌, ◌+◌, ◌^◌, ◌↔◌, List, length, Contains, IsTrue, true, false, IfOk, OnErr, MatchResult};
 ghost use Rattle.ld_terms.specs.Tree.{Nil, Box};
 ghost use Rattle.ld_terms.specs.Entry.{IsFresh};
 ghost use Rattle.ld_terms.specs.Item.{Item};
@@ -9,6 +9,7 @@ ghost use Rattle.ld_terms.specs.Bank.{tree_at, IsTermAt};
 ghost use Rattle.ld_infer.specs.Standing.{env, context, Continues, Goes};
 ghost use Rattle.ld_infer.specs.Infers.{NamesEntries, IsTyped};
 ghost use Rattle.ld_defrules.specs.Judged.{Judges, accepted_by, primitive_judged, type_judged, body_reading, line_judged, primitive_of, line_of, FaultOf, HasSort, HasType, IsNotBox};
+ghost use Rattle.ld_defrules.specs.Judged as judged;
 ghost use Rattle.ld_env.specs.Named.{names_of};
 
 use ld_infer::{
@@ -174,7 +175,7 @@ fn line_judgement(
         (FaultOf theory.new.items (line_judged (env theory.old) 0 (tree_at theory.old.items body) (tree_at theory.old.items of))) }
     ensures continues { Continues theory.old theory.new }
 {
-    if let Node::Box_ = theory.bank().node(of) {
+    if is_box(theory, of) {
         return box_judgement(alloc, theory, body, of);
     }
     type_sort(alloc, theory, RuleName::Def, of)?;
@@ -184,6 +185,14 @@ fn line_judgement(
     } else {
         Err(ItemFault::NotBuilt)
     }
+}
+
+// Whether a term is the word box.
+fn is_box(theory: &Theory, t: TermId) -> bool
+    requires { IsTermAt theory.now.items t }
+    ensures { result ≡ judged.is_box (tree_at theory.now.items t) }
+{
+    matches!(theory.bank().node(t), Node::Box_)
 }
 
 // The same where the stated type is the word box.
@@ -196,7 +205,7 @@ fn box_judgement(
     requires flat { context theory.old ≡ Nil }
     requires body { IsTermAt theory.old.items body }
     requires of { IsTermAt theory.old.items of }
-    requires is_box { tree_at theory.old.items of ≡ Box }
+    requires stated { judged.is_box (tree_at theory.old.items of) ≡ true }
     requires names { NamesEntries (length (env theory.old)) (tree_at theory.old.items body) }
     ensures answer { MatchResult result (λ j. HasType theory.old theory.new (line_judged (env theory.old) 0 (tree_at theory.old.items body) (tree_at theory.old.items of)) body of j)
         (FaultOf theory.new.items (line_judged (env theory.old) 0 (tree_at theory.old.items body) (tree_at theory.old.items of))) }

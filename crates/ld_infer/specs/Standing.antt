@@ -76,6 +76,7 @@ pub record AddsEntry (old new : Standing) (e : named.Entry) : Type 0 where
   pub env : env new ≡ env old ++ e ∷ []
   pub notes : (known new).notes ≡ (known old).notes ++ EntryNote e ∷ []
   pub contexts : new.contexts ≡ old.contexts
+  pub context_is : context new ≡ context old
 
 -- Terms and records are added at the end.
 pub record Goes (old new : Standing) : Type 0 where

@@ -132,3 +132,20 @@ impl From<NoMemory> for InferFault {
         InferFault::Memory
     }
 }
+
+#[cfg(test)]
+mod tests {
+    use super::*;
+    use std::test::Fail;
+
+    #[test]
+    fn steps_stand_in_front(rt: HostRuntime) -> Result<(), Fail> {
+        let mut path = Path::new(rt.alloc());
+        path.within(PathStep::Ran).map_err(|_| "memory")?;
+        path.within(PathStep::Of).map_err(|_| "memory")?;
+        assert_eq!(rt; path.len(), 2);
+        assert!(rt; path.step(0) == PathStep::Of);
+        assert!(rt; path.step(1) == PathStep::Ran);
+        Ok(())
+    }
+}

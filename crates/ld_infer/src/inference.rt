@@ -160,7 +160,7 @@ fn no_type(alloc: Global, theory: &Theory, asked: (RuleName, u32)) -> InferFault
     })
 }
 
-// The fault of a part that stands at a step.
+/// The fault of a part that stands at a step: the step goes in front of a refusal's path.
 pub fn within(step: PathStep, fault: InferFault) -> InferFault
     ensures { (items : List Item) (a : Answer) → Stops items a fault → Stops items (answer.within step a) result }
 {

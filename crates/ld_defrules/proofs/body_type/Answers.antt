@@ -1,13 +1,20 @@
-use Rattle.std.proofs.Common.{rules, ◌≡◌, ◌<◌, ◌≤◌, ◌+◌, ◌^◌, ◌↔◌, List, length, Contains, IfOk, OnErr, MatchResult, ℕ, ◌-◌, ◌*◌, ◌/◌, ◌%◌, Bool, true, false, nat_eq, nat_lt, [], ◌∷◌, ◌++◌, slice_index_or, slice_set, bit_and, bit_or, Fits, w8, w32, w64, Bor, MutBor}
-use Rattle.ld_terms.specs.Tree.{Nil, Box}
-use Rattle.ld_terms.specs.Item.{Item}
-use Rattle.ld_terms.specs.Bank.{tree_at, IsTermAt}
-use Rattle.ld_infer.specs.Standing.{env, context, Continues, Goes}
-use Rattle.ld_infer.specs.Infers.{NamesEntries, IsTyped}
-use Rattle.ld_defrules.specs.Judged.{Judges, accepted_by, primitive_judged, type_judged, body_reading, line_judged, primitive_of, line_of, FaultOf, HasSort, HasType, IsNotBox}
-use Rattle.ld_env.specs.Named.{names_of}
+use Rattle.std.proofs.Common.{ℕ, ap, sym, subst}
+use Rattle.ld_terms.specs.Tree.{count}
+use Rattle.ld_terms.specs.Bank.{tree_at}
+use Rattle.ld_infer.specs.Reading.{reading}
+use Rattle.ld_infer.specs.declared.failure.RuleName.TheVariants.{Def}
+use Rattle.ld_infer.specs.Standing.{env}
+use Rattle.ld_infer.specs.Infers.{Stops}
+use Rattle.ld_defrules.specs.declared.ItemFault.{ItemFault}
+use Rattle.ld_defrules.specs.Judged.{FaultOf, accepted_by, body_reading}
+use Rattle.ld_defrules.proofs.Judging.{fault_of}
 use Rattle.ld_defrules.proofs.body_type.Goals as goal
 
--- src/lib.rt:137:1
 pub returns-in-Err-clause-answer : goal.returns-in-Err-clause-answer
-returns-in-Err-clause-answer c = ?
+returns-in-Err-clause-answer c =
+    let Γ = env c.args.theory.now in
+    let t = tree_at c.args.theory.now.items c.args.body in
+    let items = c.infer.new.theory.items in
+    let P : ℕ → Type 0 = λ d. Stops items (reading Γ d Def 2 t) c.in-Err.fault in
+    let Q : ItemFault → Type 0 = λ f. FaultOf items (accepted_by (body_reading Γ 0 t)) f in
+    subst Q (sym c.from.ensures) (fault_of items _ c.within.result (c.within.ensures items _ (subst P (ap count c.requires.flat) c.in-Err.ensures.answer)))

@@ -1,4 +1,4 @@
-use Rattle.std.proofs.Common.{rules, true, false, sym}
+use Rattle.std.proofs.Common.{rules}
 use Rattle.std.proofs.lemmas.Result.{err_from_is_err_and}
 use Rattle.fb_parse.proofs.Arguments.{hole_fails, hole_read, given_fails, given_read}
 use Rattle.fb_parse.proofs.body.arg.Goals as goal

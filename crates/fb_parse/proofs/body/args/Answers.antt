@@ -1,4 +1,4 @@
-use Rattle.std.proofs.Common.{rules, true, false, arith, ◌≡◌, ◌<◌, [], ◌∷◌, ◌++◌, ap, ◌∙◌, sym, subst}
+use Rattle.std.proofs.Common.{rules, arith, ◌≡◌, ◌<◌, [], ◌∷◌, ◌++◌, ap, ◌∙◌, sym, subst}
 use Rattle.std.proofs.lemmas.Result.{err_from_is_err_and}
 use Rattle.std.proofs.lemmas.Grind.{common_steps}
 use Rattle.fb_lex.specs.TokenList.{left}
@@ -18,7 +18,7 @@ pub returns-then-is_err-clause-read : goal.returns-then-is_err-clause-read
 returns-then-is_err-clause-read c = Fails.memory
 
 pub loop-next-init : goal.loop-next-init
-loop-next-init c = 
+loop-next-init c =
     let pushed : c.push.new.self.items ≡ c.new-args.result.items ++ c.in_ok-first.first.arg ∷ [] = grind (arith, common_steps) in
     record {
       stands = c.in_ok-first.ensures.stands;
@@ -46,7 +46,7 @@ pub loop-next-smaller : goal.loop-next-smaller
 loop-next-smaller c = let h : left c.args.text.now c.in_ok-given.given.next < left c.args.text.now c.loop-next.next = omega (arith, c.in_ok-from.ensures.later, c.in_ok-given.ensures.later) in h
 
 pub loop-next-preserved : goal.loop-next-preserved
-loop-next-preserved c = 
+loop-next-preserved c =
     let pushed : c.push-in-loop-next.new.self.items ≡ c.loop-next.args.items ++ c.in_ok-given.given.arg ∷ [] = grind (arith, common_steps) in
     record {
       stands = c.in_ok-given.ensures.stands;
@@ -58,7 +58,7 @@ loop-next-preserved c =
     }
 
 pub returns-clause-read : goal.returns-clause-read
-returns-clause-read c = 
+returns-clause-read c =
     subst (λ v. Read c.args.text.now (ArgsAre v) SomeArgs behind_terms c.args.at c.loop-next.next)
     (before_args_none c.loop-next.args.items ∙ ap args_view (sym c.into_bump_slice.ensures))
     (c.loop-next.invariant.read [] c.loop-next.next (more_args_none c.args.text.now c.loop-next.next (λ q. search rules)))

@@ -1,4 +1,4 @@
-use Rattle.std.proofs.Common.{ℕ, ◌<◌, ◌∷◌, List}
+use Rattle.std.proofs.Common.{◌<◌, List}
 use Rattle.fb_lex.specs.declared.tokens.Token.{Token}
 use Rattle.fb_lex.specs.TokenList.{left}
 use Rattle.fb_parse.specs.declared.fault.ParseFault.{ParseFault}

@@ -1,4 +1,4 @@
-use Rattle.std.proofs.Common.{rules, true, false, sym, ◌≡◌, ℕ, List, Result, Ok, Err, MatchResult}
+use Rattle.std.proofs.Common.{rules, sym, ◌≡◌, ℕ, List, Result, Ok, Err, MatchResult}
 use Rattle.std.proofs.lemmas.Result.{err_from_is_err_and}
 use Rattle.fb_parse.proofs.Bodies.{by_fails_1, by_fails_2, by_read, plain_fails, plain_read}
 use denote.Enum.Bare.{same_true}

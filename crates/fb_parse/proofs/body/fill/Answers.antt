@@ -1,4 +1,3 @@
-use Rattle.std.proofs.Common.{sym, rules}
 use Rattle.std.proofs.lemmas.Result.{err_from_is_err_and}
 use Rattle.fb_parse.proofs.Bodies.{use_fails_1, use_fails_2, use_fails_3, use_read}
 use Rattle.fb_parse.proofs.body.fill.Goals as goal

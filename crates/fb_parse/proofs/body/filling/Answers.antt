@@ -1,4 +1,4 @@
-use Rattle.std.proofs.Common.{rules, true, false, sym, subst, ◌∙◌}
+use Rattle.std.proofs.Common.{rules, sym, subst, ◌∙◌}
 use Rattle.std.proofs.lemmas.Result.{err_from_is_err_and}
 use Rattle.fb_parse.specs.ItemParts.{FillingIs, SomeFilling}
 use Rattle.fb_parse.specs.ItemView.{args_view}

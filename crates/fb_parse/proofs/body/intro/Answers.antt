@@ -1,4 +1,3 @@
-use Rattle.std.proofs.Common.{sym, rules}
 use Rattle.std.proofs.lemmas.Result.{err_from_is_err_and}
 use Rattle.fb_parse.proofs.Bodies.{intro_fails_1, intro_fails_2, intro_read}
 use Rattle.fb_parse.proofs.body.intro.Goals as goal

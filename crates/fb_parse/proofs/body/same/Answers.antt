@@ -1,4 +1,3 @@
-use Rattle.std.proofs.Common.{sym, rules}
 use Rattle.std.proofs.lemmas.Result.{err_from_is_err_and}
 use Rattle.fb_parse.proofs.Bodies.{same_fails_1, same_fails_2, same_read}
 use Rattle.fb_parse.proofs.body.same.Goals as goal

@@ -1,4 +1,3 @@
-use Rattle.std.proofs.Common.{rules}
 use Rattle.fb_parse.proofs.Bodies.{no_way}
 use Rattle.fb_parse.proofs.body.way.Goals as goal
 

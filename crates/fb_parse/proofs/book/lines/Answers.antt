@@ -58,7 +58,7 @@ pub returns-then-not-begins_item : goal.returns-then-not-begins_item
 returns-then-not-begins_item c = c.lines.invariant.fails _ (no_item c.args.text.now c.lines.next c.lines.bars _ c.in_default.not-End c.in_default.not-Bar c.in_default.not-Newline (sym c.if-not-begins_item.ensures))
 
 pub returns-then-len-eq-MOST_ITEMS : goal.returns-then-len-eq-MOST_ITEMS
-returns-then-len-eq-MOST_ITEMS c = 
+returns-then-len-eq-MOST_ITEMS c =
     let full : 0 ≡ 100_000 - vec_len c.lines.items = omega (arith, c.len.ensures, c.if-len-eq-MOST_ITEMS.true) in
     c.lines.invariant.fails _ (subst (λ n. LinesFail c.args.text.now c.lines.bars n c.lines.next (ManyItems c.lines.next.span.start)) full (too_many c.args.text.now c.lines.next c.lines.bars (sym c.if-not-begins_item.ensures)))
 

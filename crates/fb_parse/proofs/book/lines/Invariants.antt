@@ -1,4 +1,4 @@
-use Rattle.std.proofs.Common.{ℕ, ◌<◌, ◌≤◌, ◌+◌, ◌-◌, List, length, vec_len}
+use Rattle.std.proofs.Common.{◌≤◌, ◌+◌, ◌-◌, List, length, vec_len}
 use Rattle.fb_lex.specs.TokenList.{left}
 use Rattle.fb_parse.specs.declared.fault.ParseFault.{ParseFault}
 use Rattle.fb_parse.specs.Items.{SurfaceItem}

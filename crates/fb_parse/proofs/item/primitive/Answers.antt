@@ -1,4 +1,3 @@
-use Rattle.std.proofs.Common.{sym, rules}
 use Rattle.std.proofs.lemmas.Result.{err_from_is_err_and}
 use Rattle.fb_parse.proofs.Bodies.{prim_fails_1, prim_fails_2, prim_fails_3, prim_read}
 use Rattle.fb_parse.proofs.item.primitive.Goals as goal

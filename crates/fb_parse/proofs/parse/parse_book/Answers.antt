@@ -1,4 +1,4 @@
-use Rattle.std.proofs.Common.{◌≡◌, ◌≤◌, ℕ, List, length, Option, None, Result, Ok, Err, MatchResult, IfOk}
+use Rattle.std.proofs.Common.{◌≤◌, ℕ, List, length, None, Result, Ok, Err, MatchResult, IfOk}
 use Rattle.fb_lex.specs.declared.tokens.Token.{Token}
 use Rattle.fb_lex.specs.Tokens.{IsNext}
 use Rattle.fb_parse.specs.declared.fault.ParseFault.{ParseFault}

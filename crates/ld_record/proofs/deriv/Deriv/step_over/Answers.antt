@@ -13,7 +13,7 @@ pub returns-then-index : goal.returns-then-index
 returns-then-index c =
     let P : Bool → Type 0 = λ p. IsKind p (entry_at (known_of c.args.bank.now c.args.self.now).env c.args.entry).body in
     let below : c.args.entry < length c.self.inside.prims.items =
-        omega (arith, c.requires, env_known c.args.bank.now c.args.self.now, ap length c.self.invariant.prims_are, ap (λ ks. length (prims_of ks)) c.self.view_is) in
+    omega (arith, c.requires, env_known c.args.bank.now c.args.self.now, ap length c.self.invariant.prims_are, ap (λ ks. length (prims_of ks)) c.self.view_is) in
     let are = c.self.invariant.prims_are ∙ ap prims_of c.self.view_is in
     (refl, subst P c.if-index.true (read_kind c.args.bank.now c.args.self.now c.self.inside.prims.items _ c.args.entry are below c.index.ensures))
 
@@ -21,6 +21,6 @@ pub returns-else-index : goal.returns-else-index
 returns-else-index c =
     let P : Bool → Type 0 = λ p. IsKind p (entry_at (known_of c.args.bank.now c.args.self.now).env c.args.entry).body in
     let below : c.args.entry < length c.self.inside.prims.items =
-        omega (arith, c.requires, env_known c.args.bank.now c.args.self.now, ap length c.self.invariant.prims_are, ap (λ ks. length (prims_of ks)) c.self.view_is) in
+    omega (arith, c.requires, env_known c.args.bank.now c.args.self.now, ap length c.self.invariant.prims_are, ap (λ ks. length (prims_of ks)) c.self.view_is) in
     let are = c.self.invariant.prims_are ∙ ap prims_of c.self.view_is in
     (refl, subst P c.if-index.false (read_kind c.args.bank.now c.args.self.now c.self.inside.prims.items _ c.args.entry are below c.index.ensures))
