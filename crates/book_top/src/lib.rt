@@ -6,6 +6,8 @@ mod item;
 mod names;
 mod report;
 mod status;
+#[cfg(test)]
+mod tests;
 mod top;
 mod words;
 
