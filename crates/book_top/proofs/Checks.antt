@@ -88,7 +88,7 @@ checks_none before now out all theory writer told tells_said said started target
 pub checks_more : (before now after : Seen) (out text : List ℕ) (items : List Item) (index : ℕ) (i : Item) (theory next : Standing) (writer later : Writer)
     → Checks before now out (items_view text items) index theory writer → index < length items → i ≡ get_or items index i
     → (IsSound theory.items theory.kept → IsTrue now.tells_files → IsWritten theory.items theory.kept writer (content_of now now.target)
-        → IsWritten next.items next.kept later (content_of after now.target))
+    → IsWritten next.items next.kept later (content_of after now.target))
     → later.written ≡ length next.kept → IsSound next.items next.kept → IsAccepted theory next (item_view text i) → context next ≡ Nil → OnlyTarget now after
     → Checks before after out (items_view text items) (index + 1) next later
 checks_more before now after out text items index i theory next writer later h below is step count sound accepted flat stays =
@@ -127,7 +127,7 @@ checks_room before now out all index theory writer h few = omega (arith, h.entri
 pub checks_done : (before now after : Seen) (out text : List ℕ) (items : List Item) (index count : ℕ) (theory : Standing) (writer : Writer)
     → Checks before now out (items_view text items) index theory writer → index ≡ length items → count ≡ length items
     → (IsSound theory.items theory.kept → IsTrue now.tells_files → IsWritten theory.items theory.kept writer (content_of now now.target)
-        → Derives (content_of after now.target) (env theory) (known theory).notes)
+    → Derives (content_of after now.target) (env theory) (known theory).notes)
     → IsTrue before.tells_files → IsCheckDone (content_of after out) (items_view text items) (record { items = count; entries = count; steps = 0 })
 checks_done before now after out text items index count theory writer h all is end t =
     let T : Bool → Type 0 = λ b. IsTrue b in

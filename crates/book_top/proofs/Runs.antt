@@ -64,6 +64,16 @@ pub done_later : (old new later : Seen) (book out : List ℕ) (s : Summary) → 
 done_later old new later book out s same d =
     let P : (List ℕ → Option (List ℕ)) → Type 0 = λ files. Derives (unwrap_or (files out) []) d.env d.notes in
     record {
-      text = d.text; items = d.items; notes = d.notes; env = d.env; fetched = d.fetched; parsed = d.parsed; spells = d.spells; accepted = d.accepted;
-      derives = subst P (sym same) d.derives; items_are = d.items_are; entries_are = d.entries_are; no_steps = d.no_steps;
+      text = d.text;
+      items = d.items;
+      notes = d.notes;
+      env = d.env;
+      fetched = d.fetched;
+      parsed = d.parsed;
+      spells = d.spells;
+      accepted = d.accepted;
+      derives = subst P (sym same) d.derives;
+      items_are = d.items_are;
+      entries_are = d.entries_are;
+      no_steps = d.no_steps;
     }

@@ -179,7 +179,15 @@ pub fn check_items<D: Desk>(
     let mut theory = Theory::new(alloc)?;
     let mut writer = Writer::new(alloc);
     for (number, item) in items.iter().enumerate() {
-        check_item(alloc, &mut theory, &mut writer, desk, text, number as u64, item)?;
+        check_item(
+            alloc,
+            &mut theory,
+            &mut writer,
+            desk,
+            text,
+            number as u64,
+            item,
+        )?;
     }
     finish(alloc, &mut theory, &mut writer, desk)?;
     let count = items.len() as u64;

@@ -9,15 +9,19 @@ fn desk_with(alloc: Global, book: &str) -> Result<MemDesk, Fail> {
     let mut files = Vec::new(alloc);
     files.push((
         Text::from_bytes(alloc, b"book").ok().ok_or("memory")?,
-        Text::from_bytes(alloc, book.as_bytes()).ok().ok_or("memory")?,
+        Text::from_bytes(alloc, book.as_bytes())
+            .ok()
+            .ok_or("memory")?,
     ))?;
     files.push((
         Text::from_bytes(alloc, b"out").ok().ok_or("memory")?,
         Text::from_bytes(alloc, b"before").ok().ok_or("memory")?,
     ))?;
-    Ok(MemDesk::new(alloc, files, Vec::new(alloc))
-        .ok()
-        .ok_or("memory")?)
+    Ok(
+        MemDesk::new(alloc, files, Vec::new(alloc))
+            .ok()
+            .ok_or("memory")?,
+    )
 }
 
 #[test]
@@ -26,15 +30,27 @@ fn books_are_answered(rt: HostRuntime) -> Result<(), Fail> {
     let rows: [(&str, u8, &str); 12] = [
         ("", 0, "done: 0 items, 0 entries, 0 steps\n"),
         ("A := prim : *\n", 0, "done: 1 items, 1 entries, 0 steps\n"),
-        ("A := prim : *\nf := prim : A -> A\n", 0, "done: 2 items, 2 entries, 0 steps\n"),
-        ("A := prim : *\na := prim : A\nb := a : A\n", 0, "done: 3 items, 3 entries, 0 steps\n"),
+        (
+            "A := prim : *\nf := prim : A -> A\n",
+            0,
+            "done: 2 items, 2 entries, 0 steps\n",
+        ),
+        (
+            "A := prim : *\na := prim : A\nb := a : A\n",
+            0,
+            "done: 3 items, 3 entries, 0 steps\n",
+        ),
         ("A := prim : *\nA := prim : *\n", 1, "text\n"),
         ("a := prim : B\n", 1, "text\n"),
         ("A := prim\n", 1, "text\n"),
         ("A := prim : *\nx := A : box\n", 3, "rule\n"),
         ("x := prim : box\n", 3, "rule\n"),
         ("x := box : *\n", 3, "rule\n"),
-        ("A := prim : *\na := prim : A\nd := A : *\nb := a : d\n", 1, "text\n"),
+        (
+            "A := prim : *\na := prim : A\nd := A : *\nb := a : d\n",
+            1,
+            "text\n",
+        ),
         ("[x : *]\n", 1, "text\n"),
     ];
     for (book, code, said) in rows {
