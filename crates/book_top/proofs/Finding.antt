@@ -1,10 +1,9 @@
 -- The number of the entry of a name, where no two names are the same.
-use Rattle.std.proofs.Common.{◌≡◌, ◌≢◌, ◌<◌, ◌+◌, ℕ, zero, suc, Bool, true, false, not, cond, List, [], ◌∷◌, length, get_or, nat_lt, Option, Some, None, slice_get, Contains, position, refl, sym, ap, ◌∙◌, arith, MatchOption}
+use Rattle.std.proofs.Common.{◌≡◌, ◌<◌, ◌+◌, ℕ, zero, suc, Bool, true, false, not, cond, List, [], ◌∷◌, length, get_or, nat_lt, Option, Some, None, slice_get, Contains, position, refl, sym, ap, ◌∙◌, arith, MatchOption}
 use Rattle.std.specs.List.{position_or_len}
 use Rattle.std.specs.Str.{bytes_eq}
 use Rattle.std.proofs.lemmas.Slice.Eq.{bytes_eq-Decides}
 use Rattle.std.proofs.lemmas.Bool.Decides.{nat_tests}
-use Rattle.ld_terms.specs.Entry.{Entry, Env}
 use Rattle.ld_env.specs.Entries.{env_of}
 use Rattle.ld_env.specs.Named.{Named}
 use Rattle.ld_env.specs.Named as named

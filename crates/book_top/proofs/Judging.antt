@@ -1,8 +1,6 @@
 -- The verdict on an item, from how it was read and judged.
 use Rattle.std.proofs.Common.{◌≡◌, ℕ, List, Result, Ok, Err, IsErrAnd, ap, subst, sym}
 use Rattle.ld_infer.specs.Standing.{Standing, env, AddsEntry}
-use Rattle.ld_infer.specs.Infers.{refusal_of}
-use Rattle.ld_defrules.specs.Judged as rules
 use Rattle.fb_parse.specs.declared.tree.Item.{Item}
 use Rattle.fb_parse.specs.Items.{SurfaceItem}
 use Rattle.fb_parse.specs.ItemView.{item_view, at_span}

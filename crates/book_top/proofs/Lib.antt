@@ -5,3 +5,4 @@ pub mod Judging
 pub mod Sessions
 pub mod Checks
 pub mod Runs
+pub mod Stops

@@ -1,5 +1,5 @@
 -- A term that is read names only entries that are there.
-use Rattle.std.proofs.Common.{◌≡◌, ◌<◌, ℕ, Bool, true, false, cond, nat_lt, suc, List, [], ◌∷◌, length, map, Option, Some, None, Result, Ok, Err, IsOk, refl, sym, ap, subst, ◌∙◌, arith, position}
+use Rattle.std.proofs.Common.{◌≡◌, ◌<◌, ℕ, Bool, true, false, cond, nat_lt, suc, List, [], ◌∷◌, length, Some, None, Result, Ok, Err, IsOk, refl, sym, ap, subst, ◌∙◌, arith}
 use Rattle.std.specs.List.{position_or_len}
 use Rattle.std.specs.Str.{bytes_eq}
 use Rattle.std.proofs.lemmas.Bool.Decides.{nat_tests}
@@ -8,8 +8,8 @@ use Rattle.fb_parse.specs.Grammar.{Surface, Star, Box_, Name, Inst, Apply, Fun, 
 use Rattle.ld_terms.specs.Tree as tree
 use Rattle.ld_terms.specs.Tree.{Tree}
 use Rattle.ld_terms.specs.Item as item
-use Rattle.ld_terms.specs.Entry.{Entry, Env}
-use Rattle.ld_terms.specs.Bank.{Extends, StandsFor, tree_at}
+use Rattle.ld_terms.specs.Entry.{Env}
+use Rattle.ld_terms.specs.Bank.{StandsFor, tree_at}
 use Rattle.ld_terms.specs.declared.bank.TermId.{TermId}
 use Rattle.ld_terms.proofs.Banks.{extends_trans}
 use Rattle.ld_record.proofs.Keeping.{begins_trans}

@@ -1,7 +1,6 @@
 -- From the parts of a run to what it answers.
-use Rattle.std.proofs.Common.{◌≡◌, ◌<◌, ◌≤◌, ◌+◌, ℕ, zero, suc, Bool, IsTrue, List, [], ◌∷◌, length, take, get_or, Option, Some, unwrap_or, ap, sym, subst, ◌∙◌, arith}
-use Rattle.std.proofs.lemmas.List.{take_all, length-take}
-use Rattle.fb_base.specs.Desk.{Seen, content_of}
+use Rattle.std.proofs.Common.{◌≡◌, ◌⊎◌, inl, inr, refl, Ok, Err, ◌<◌, ◌≤◌, ◌+◌, ℕ, zero, suc, List, [], ◌∷◌, length, take, get_or, ap, sym, subst, ◌∙◌, arith}
+use Rattle.std.proofs.lemmas.List.{take_all, length-take, append-nil}
 use Rattle.ld_terms.specs.Entry.{Env}
 use Rattle.ld_terms.specs.Known.{Note}
 use Rattle.fb_parse.specs.declared.tree.Item.{Item}
@@ -9,13 +8,29 @@ use Rattle.fb_parse.specs.Items.{SurfaceItem}
 use Rattle.fb_parse.specs.ItemView.{items_view}
 use Rattle.fb_parse.specs.Standing.{ItemsStand}
 use Rattle.fb_parse.specs.Texts.{IsBookText}
-use Rattle.fb_lex.specs.Tokens.{between}
-use Rattle.dr_text.specs.Derives.{Derives}
-use Rattle.book_top.specs.declared.status.Summary.{Summary}
+use Rattle.fb_base.specs.declared.places.Span.{Span}
 use Rattle.book_top.specs.Spells.{Spells, Accepts, none, more}
 use Rattle.book_top.specs.Judged.{IsNameSpan}
-use Rattle.book_top.specs.Chunks.{IsCheckDone}
-use Rattle.book_top.specs.Top.{IsDone, IsFetched}
+use Rattle.fb_parse.specs.Texts.{BeginsBook, Refuses}
+use Rattle.fb_parse.specs.declared.fault.ParseFault.{ParseFault}
+use Rattle.fb_parse.specs.declared.fault.ParseFault.TheVariants as parse
+use Rattle.ld_terms.specs.Item as bank
+use Rattle.ld_infer.specs.declared.failure.Why.{Why}
+use Rattle.ld_infer.specs.declared.failure.Why.TheVariants as reason
+use Rattle.ld_infer.specs.Infers.{reason_of}
+use Rattle.book_top.specs.declared.status.RuleFault.{RuleFault}
+use Rattle.book_top.specs.declared.status.Status.{Status}
+use Rattle.book_top.specs.declared.status.Status.TheVariants as status
+use Rattle.book_top.specs.declared.status.Summary.{Summary}
+use Rattle.book_top.specs.declared.check.Stop.{Stop}
+use Rattle.book_top.specs.declared.check.Stop.TheVariants as stop
+use Rattle.book_top.specs.declared.item.ItemStop.{ItemStop}
+use Rattle.book_top.specs.declared.item.ItemStop.TheVariants as item
+use Rattle.book_top.specs.Verdict.{Verdict}
+use Rattle.book_top.specs.Left.{Files, IsLeft, between, whole as whole_left}
+use Rattle.book_top.specs.Checked.{IsVerdict, IsChecked, IsWhyOf, AnswersFault, AnswersStop}
+use Rattle.book_top.specs.Top.{IsFetched, IsWhy, AnswersItem, AnswersNoCommand, Leaves, untouched, left, Checks, done, too_long, no_book, item_refused, IsSaid}
+use Rattle.book_top.specs.Top as top
 
 -- fewer bytes than were asked for are all of them
 pub whole : (content items : List ℕ) (most : ℕ) → items ≡ take (most + 1) content → length items ≤ most → items ≡ content
@@ -38,42 +53,134 @@ pub spells_of : {start end : Env} {is : List SurfaceItem} {notes : List Note} �
 spells_of none = Spells.none
 spells_of (more r e v rest) = Spells.more r e (spells_of rest)
 
-pub is_done : (old new : Seen) (book out bytes text other : List ℕ) (items : List Item) (s : Summary) → text ≡ bytes → other ≡ bytes
-    → IsFetched old book bytes → IsBookText text (items_view text items) → IsCheckDone (content_of new out) (items_view other items) s → IsDone old new book out s
-is_done old new book out bytes text other items s one two fetched parsed done =
-    let P : List ℕ → Type 0 = λ t. IsBookText t (items_view t items) in
-    let Q : List ℕ → Type 0 = λ t. IsCheckDone (content_of new out) (items_view t items) s in
-    let d = subst Q two done in
-    record {
-      text = bytes;
-      items = items_view bytes items;
-      notes = d.notes;
-      env = d.env;
-      fetched = fetched;
-      parsed = subst P one parsed;
-      spells = spells_of d.accepted;
-      accepted = d.accepted;
-      derives = d.derives;
-      items_are = d.items_are;
-      entries_are = d.entries_are;
-      no_steps = d.no_steps;
-    }
+-- A text that is no book, or for which memory ran out.
+pub parse_checks : (before after : Files) (book out bytes text : List ℕ) (fault : ParseFault) (answer : Status) → after ≡ before → text ≡ bytes → IsFetched before book bytes
+    → Refuses text BeginsBook fault → AnswersFault fault answer → Checks before after book out answer
+parse_checks before after book out bytes text fault answer same is fetched refused answers =
+    let P : List ℕ → Type 0 = λ t. Refuses t BeginsBook fault in
+    by_fault fault (subst P is refused) answers
+  where
+    by_fault : (f : ParseFault) → Refuses bytes BeginsBook f → AnswersFault f answer → Checks before after book out answer
+    by_fault (parse.Lex f) r a = no_book (record { text = bytes; fault = parse.Lex f; fetched = fetched; refused = r; answers = a }) same
+    by_fault (parse.Syntax at) r a = no_book (record { text = bytes; fault = parse.Syntax at; fetched = fetched; refused = r; answers = a }) same
+    by_fault (parse.Deep at) r a = no_book (record { text = bytes; fault = parse.Deep at; fetched = fetched; refused = r; answers = a }) same
+    by_fault (parse.ManyItems at) r a = no_book (record { text = bytes; fault = parse.ManyItems at; fetched = fetched; refused = r; answers = a }) same
+    by_fault parse.Memory r a =
+        let Q : Status → Type 0 = λ s. Checks before after book out s in
+        subst Q (sym a) (top.memory (untouched (ap (λ (files : Files). files out) same)))
 
--- where the files stay as they are
-pub done_later : (old new later : Seen) (book out : List ℕ) (s : Summary) → later.files ≡ new.files → IsDone old new book out s → IsDone old later book out s
-done_later old new later book out s same d =
-    let P : (List ℕ → Option (List ℕ)) → Type 0 = λ files. Derives (unwrap_or (files out) []) d.env d.notes in
-    record {
-      text = d.text;
-      items = d.items;
-      notes = d.notes;
-      env = d.env;
-      fetched = d.fetched;
-      parsed = d.parsed;
-      spells = d.spells;
-      accepted = d.accepted;
-      derives = subst P (sym same) d.derives;
-      items_are = d.items_are;
-      entries_are = d.entries_are;
-      no_steps = d.no_steps;
-    }
+why_is : (items : List bank.Item) (w : Why) (f : RuleFault) → IsWhyOf w f → IsWhy (reason_of items w) f
+why_is items reason.NoType f h = h
+why_is items (reason.NotSame found wanted a b under) f h = h
+
+item_answers : (i : SurfaceItem) (before number : ℕ) (v : Verdict) (s : ItemStop) (answer : Status) → IsVerdict s v → number ≡ before + 1
+    → AnswersStop (stop.Item number i.span s) answer → AnswersItem i before v answer
+item_answers i before number v (item.Text f) answer same is a =
+    let A : Verdict → Type 0 = λ w. AnswersItem i before w answer in
+    let B : Status → Type 0 = λ s. AnswersItem i before (Verdict.TextRefused f) s in
+    subst A (sym same) (subst B (sym a) refl)
+item_answers i before number v item.High answer same is a =
+    let A : Verdict → Type 0 = λ w. AnswersItem i before w answer in
+    let B : Status → Type 0 = λ s. AnswersItem i before Verdict.TooHigh s in
+    subst A (sym same) (subst B (sym a) refl)
+item_answers i before number v (item.Refused f) (status.Rule r) same is a =
+    let A : Verdict → Type 0 = λ w. AnswersItem i before w (status.Rule r) in
+    subst A (sym same.1) (record { item = a.item ∙ is; at = a.place; rule = a.rule; premise = a.premise; path = a.path; why = why_is same.0 f.why r a.why })
+item_answers i before number v (item.Refused f) (status.Done s) same is a = absurd a
+item_answers i before number v (item.Refused f) (status.Text s) same is a = absurd a
+item_answers i before number v (item.Refused f) status.Usage same is a = absurd a
+item_answers i before number v (item.Refused f) status.Desk same is a = absurd a
+item_answers i before number v (item.Refused f) (status.Limit s) same is a = absurd a
+item_answers i before number v (item.Refused f) status.Memory same is a = absurd a
+item_answers i before number v item.Memory answer same is a = absurd same
+
+-- the check of the items of a parsed book
+module _ (before after : Files) (book out bytes text other : List ℕ) (items : List Item) (one : text ≡ bytes) (two : other ≡ bytes)
+    (fetched : IsFetched before book bytes) (parsed_text : IsBookText text (items_view text items)) where
+  parsed : IsBookText bytes (items_view bytes items)
+  parsed =
+      let P : List ℕ → Type 0 = λ t. IsBookText t (items_view t items) in
+      subst P one parsed_text
+
+  pub done_checks : (s : Summary) → IsChecked (before out) (after out) (items_view other items) (Ok s) → Checks before after book out (status.Done s)
+  done_checks s checked =
+      let Q : List ℕ → Type 0 = λ t. IsChecked (before out) (after out) (items_view t items) (Ok s) in
+      let d = subst Q two checked in
+      done (record {
+        text = bytes;
+        items = items_view bytes items;
+        notes = d.notes;
+        env = d.env;
+        fetched = fetched;
+        parsed = parsed;
+        spells = spells_of d.accepted;
+        accepted = d.accepted;
+        derives = d.derives;
+        items_are = d.items_are;
+        entries_are = d.entries_are;
+        no_steps = d.no_steps;
+      })
+
+  leaves : (after out ≡ before out) ⊎ IsLeft (items_view bytes items) (after out) → Leaves before after book out
+  leaves (inl e) = untouched e
+  leaves (inr h) = left bytes (items_view bytes items) fetched parsed h
+
+  pub stop_checks : (s : Stop) (answer : Status) → IsChecked (before out) (after out) (items_view other items) (Err s) → AnswersStop s answer → Checks before after book out answer
+  stop_checks s answer checked answers =
+      let Q : List ℕ → Type 0 = λ t. IsChecked (before out) (after out) (items_view t items) (Err s) in
+      by_stop s (subst Q two checked) answers
+    where
+      by_stop : (s : Stop) → IsChecked (before out) (after out) (items_view bytes items) (Err s) → AnswersStop s answer → Checks before after book out answer
+      by_stop stop.Desk c a =
+          let R : Status → Type 0 = λ s. Checks before after book out s in
+          subst R (sym a) (top.desk (leaves c))
+      by_stop stop.Memory c a =
+          let R : Status → Type 0 = λ s. Checks before after book out s in
+          subst R (sym a) (top.memory (leaves c))
+      by_stop (stop.Item n at s) c a =
+          let S : Span → Type 0 = λ place. AnswersStop (stop.Item n place s) answer in
+          item_refused (record {
+            text = bytes;
+            items = items_view bytes items;
+            number = c.before;
+            item = c.item;
+            verdict_is = c.verdict_is;
+            fetched = fetched;
+            parsed = parsed;
+            first = c.first;
+            answers = item_answers c.item c.before n c.verdict_is s answer c.same c.number_is (subst S c.at_is a);
+            left = c.left;
+          })
+
+-- what a check that was answered leaves, if the report fails
+leaves_of : (before after : Files) (book out : List ℕ) (s : Status) → Checks before after book out s → Leaves before after book out
+leaves_of before after book out s (done d) = left d.text d.items d.fetched d.parsed (whole_left d.accepted d.derives)
+leaves_of before after book out s (too_long text there long same) = untouched (ap (λ (files : Files). files out) same)
+leaves_of before after book out s (no_book h same) = untouched (ap (λ (files : Files). files out) same)
+leaves_of before after book out s (item_refused r) =
+    left r.text r.items r.fetched r.parsed (between (record { some = r.first.before; split = r.first.split; accepted = r.first.accepted; front = r.left }))
+leaves_of before after book out s (top.desk l) = l
+leaves_of before after book out s (top.memory l) = l
+
+-- the answer after the report was said, or wasn't
+pub said_checks : (before mid after : Files) (book out : List ℕ) (given answer : Status) → Checks before mid book out given → after ≡ mid
+    → (answer ≡ given) ⊎ (answer ≡ status.Desk) ⊎ (answer ≡ status.Memory) → Checks before after book out answer
+said_checks before mid after book out given answer h same is =
+    let F : Files → Type 0 = λ files. Checks before files book out answer in
+    subst F (sym same) (by_answer is)
+  where
+    by_answer : (answer ≡ given) ⊎ (answer ≡ status.Desk) ⊎ (answer ≡ status.Memory) → Checks before mid book out answer
+    by_answer (inl e) = let R : Status → Type 0 = λ s. Checks before mid book out s in subst R (sym e) h
+    by_answer (inr (inl e)) = let R : Status → Type 0 = λ s. Checks before mid book out s in subst R (sym e) (top.desk (leaves_of before mid book out given h))
+    by_answer (inr (inr e)) = let R : Status → Type 0 = λ s. Checks before mid book out s in subst R (sym e) (top.memory (leaves_of before mid book out given h))
+
+pub no_command_answers : (answer : Status) → (answer ≡ status.Usage) ⊎ (answer ≡ status.Desk) ⊎ (answer ≡ status.Memory) → AnswersNoCommand answer
+no_command_answers answer (inl e) = subst AnswersNoCommand (sym e) tt
+no_command_answers answer (inr (inl e)) = subst AnswersNoCommand (sym e) tt
+no_command_answers answer (inr (inr e)) = subst AnswersNoCommand (sym e) tt
+
+-- nothing is said of a desk that failed
+pub said_nothing : (before : List ℕ) (s : Status) → s ≡ status.Desk → IsSaid before before s
+said_nothing before s e =
+    let P : Status → Type 0 = λ answer. IsSaid before before answer in
+    subst P (sym e) (status.Desk, 0, sym (append-nil before))

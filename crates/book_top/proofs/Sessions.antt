@@ -1,16 +1,26 @@
 -- What stands in the file, as a theory goes on and chunks are written.
-use Rattle.std.proofs.Common.{◌≡◌, ◌≤◌, ℕ, Bool, IsTrue, List, [], ◌++◌, length, Option, Some, None, unwrap_or, Ok, ap, sym, ◌∙◌, subst}
+use Rattle.std.proofs.Common.{◌≡◌, ℕ, IsTrue, List, [], ◌++◌, length, Option, Some, None, unwrap_or, Ok, Err, IsErrOf, refl, ap, sym, ◌∙◌, subst, arith}
+use Rattle.std.proofs.lemmas.List.{take_all}
 use Rattle.fb_base.specs.Desk.{Seen, content_of}
 use Rattle.ld_terms.specs.Entry.{Env}
-use Rattle.ld_terms.specs.Known.{Note}
+use Rattle.ld_terms.specs.Known.{Known, Note}
+use Rattle.ld_terms.specs.Record.{start, final}
+use Rattle.ld_terms.specs.Item.{Item}
 use Rattle.ld_record.specs.declared.record.JudgeId.{JudgeId}
-use Rattle.ld_record.specs.Kept.{IsSound}
+use Rattle.ld_record.specs.declared.record.Kept.{Kept}
+use Rattle.ld_record.specs.Kept.{IsSound, known_of}
 use Rattle.dr_text.specs.declared.writer.Writer.{Writer}
 use Rattle.dr_text.specs.Written.{IsWritten, IsContent}
 use Rattle.dr_text.specs.Derives.{Derives}
 use Rattle.dr_text.proofs.CallerLemmas.{written_later, written_more}
 use Rattle.ld_infer.specs.Standing.{Standing, known, env, Continues, Goes}
-use Rattle.book_top.specs.Chunks.{WritesChunk, LengthensTo}
+use Rattle.fb_base.specs.declared.desk.DeskFault.{DeskFault}
+use Rattle.fb_base.specs.declared.desk.DeskFault.TheVariants as desk
+use Rattle.fb_parse.specs.Items.{SurfaceItem}
+use Rattle.book_top.specs.Chunks.{WritesChunk, LengthensTo, stop_by}
+use Rattle.book_top.specs.Left.{IsFront}
+use Rattle.book_top.specs.Judged.{IsAccepted}
+use Rattle.book_top.specs.Checked.{StopsItem, StopsEnd}
 
 -- what was written stays written as a theory goes on
 pub written_on : (a b : Standing) (w : Writer) (content : List ℕ) → Goes a b → IsSound a.items a.kept → IsWritten a.items a.kept w content → IsWritten b.items b.kept w content
@@ -37,3 +47,27 @@ end_written a b w v j old new goes chunk sound told h =
     let E : Env → Type 0 = λ es. Derives (content_of new old.target) es (known b).notes in
     let N : List Note → Type 0 = λ ns. Derives (content_of new old.target) (env a) ns in
     subst N goes.adds.notes (subst E goes.adds.env whole)
+
+-- what is written once all records are
+pub front_of : (items : List Item) (kept : List Kept) (w : Writer) (content : List ℕ) → w.written ≡ length kept → IsWritten items kept w content
+    → IsFront content (known_of items kept).env (known_of items kept).notes
+front_of items kept w content all h =
+    let same : (final start h.records).known ≡ known_of items kept = h.known ∙ ap (known_of items) (take_all w.written kept (omega (arith, all))) in
+    record { records = h.records; spelled = h.spelled; stand = h.stand; env_is = ap (λ (k : Known). k.env) same; notes_are = ap (λ (k : Known). k.notes) same }
+
+-- a chunk that isn't written whole, behind an item
+pub item_stopped : (a b : Standing) (w v : Writer) (old new : Seen) (i : SurfaceItem) (number : ℕ) (fault : DeskFault) → Goes a b → IsAccepted a b i
+    → (IsErrOf {T = Unit {0}} (Err fault) desk.Failed → v.written ≡ length b.kept) → WritesChunk b.items b.kept w v None old new (Err fault) → StopsItem a b w v old new i number (stop_by fault)
+item_stopped a b w v old new i number desk.Failed goes accepted all chunk = λ told sound h.
+    record { accepted = accepted; all = all refl; partly = chunk told (written_on a b w (content_of old old.target) goes sound h) }
+item_stopped a b w v old new i number desk.Memory goes accepted all chunk = chunk
+
+-- and at the end
+pub end_stopped : (a b : Standing) (w v : Writer) (j : JudgeId) (old new : Seen) (fault : DeskFault) → Continues a b
+    → WritesChunk b.items b.kept w v (Some j) old new (Err fault) → StopsEnd a w old new (stop_by fault)
+end_stopped a b w v j old new desk.Failed goes chunk = λ told sound h.
+    let part = chunk told (written_on a b w (content_of old old.target) (record { items = goes.items; kept = goes.kept }) sound h) in
+    let E : Env → Type 0 = λ es. Derives (content_of old old.target ++ part.next) es (known b).notes in
+    let N : List Note → Type 0 = λ ns. Derives (content_of old old.target ++ part.next) (env a) ns in
+    record { next = part.next; n = part.n; file = part.file; whole = subst N goes.adds.notes (subst E goes.adds.env part.whole) }
+end_stopped a b w v j old new desk.Memory goes chunk = chunk

@@ -1,5 +1,5 @@
 -- Three words, of which the first is the command.
-use Rattle.std.proofs.Common.{◌≡◌, ◌≤◌, ◌<◌, ℕ, Bool, true, false, not, refl, List, [], ◌∷◌, length, get_or, ap, sym, arith, Bor}
+use Rattle.std.proofs.Common.{◌≡◌, ◌≤◌, ◌<◌, ℕ, Bool, true, false, not, refl, List, [], ◌∷◌, length, get_or, ap, arith, Bor}
 use Rattle.std.proofs.lemmas.Slice.Eq.{bytes_eq-Decides}
 use Rattle.std.specs.Str.{bytes_eq}
 use Rattle.book_top.specs.Words.{texts}

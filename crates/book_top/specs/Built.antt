@@ -1,5 +1,5 @@
 -- What the reading of an item's terms answers, in the code's values.
-use Rattle.std.specs.Prelude.{◌≡◌, ℕ, ⊤, List, Result, Ok, Err, map}
+use Rattle.std.specs.Prelude.{⊤, List, Result, Ok, Err}
 use Rattle.ld_terms.specs.Tree.{Tree, Star}
 use Rattle.ld_terms.specs.Item.{Item, One, IsSmall}
 use Rattle.ld_terms.specs.Bank.{StandsFor}

@@ -17,10 +17,6 @@ use Rattle.book_top.specs.declared.check.Stop.TheVariants as stop
 use Rattle.book_top.specs.declared.status.Summary.{Summary}
 use Rattle.book_top.specs.Spells.{Accepts}
 
--- the file has become longer by these bytes
-pub record Lengthens (old new : Seen) (bytes : List ℕ) : Type 0 where
-  pub file : new.files old.target ≡ Some (content_of old old.target ++ bytes)
-
 -- The file has become longer by a front of what would make it this.
 pub record LengthensPartly (old new : Seen) (Whole : List ℕ → Type 0) : Type 0 where
   pub next : List ℕ

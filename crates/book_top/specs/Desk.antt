@@ -12,3 +12,7 @@ pub record OnlyTarget (old new : Seen) : Type 0 where
   pub target : new.target ≡ old.target
   pub others : IsTrue old.tells_files → OthersStay old new old.target
   pub never_falls : old.faults ≤ new.faults
+
+-- nothing changed but what was said
+abbrev pub OnlySays : (old new : Seen) → Type 0
+OnlySays old new = new ≡ record old { said = new.said; faults = new.faults }

@@ -1,6 +1,5 @@
 -- What the reading and the judging of one item answer, in the code's values.
 use Rattle.std.specs.Prelude.{◌≡◌, ◌<◌, ◌≤◌, ℕ, ⊤, List, length, Result, Ok, Err, IsOk, Contains}
-use Rattle.ld_terms.specs.Tree.{Nil}
 use Rattle.ld_infer.specs.Standing.{Standing, env, AddsEntry}
 use Rattle.ld_infer.specs.Infers.{refusal_of}
 use Rattle.ld_defrules.specs.Judged as rules

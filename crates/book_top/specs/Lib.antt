@@ -4,8 +4,9 @@ pub mod Spells
 pub mod Words
 pub mod Report
 pub mod Desk
+pub mod Left
 pub mod Top
 pub mod Built
 pub mod Judged
 pub mod Chunks
-pub mod Run
+pub mod Checked

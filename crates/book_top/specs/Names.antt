@@ -1,5 +1,5 @@
 -- How the names of an item are read, for the forms that are built.
-use Rattle.std.specs.Prelude.{◌≡◌, ℕ, zero, suc, List, [], ◌∷◌, Option, Some, None, Result, Ok, Err, position}
+use Rattle.std.specs.Prelude.{ℕ, zero, suc, List, Option, Some, None, Result, Ok, Err, position}
 use Rattle.std.specs.Str.{bytes_eq}
 use Rattle.ld_terms.specs.Tree.{Tree, Star, Box, Pi, Const, Nil}
 use Rattle.fb_base.specs.declared.places.Span.{Span}

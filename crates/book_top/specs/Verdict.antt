@@ -1,9 +1,8 @@
 -- What is answered for an item.
-use Rattle.std.specs.Prelude.{◌≡◌, ◌≢◌, ℕ, ◌<◌, List, [], ◌∷◌, ◌++◌, length, map, Result, Ok, Err}
-use Rattle.ld_terms.specs.Tree.{Tree, Nil}
+use Rattle.std.specs.Prelude.{◌≡◌, ℕ, List, map, Ok, Err}
+use Rattle.ld_terms.specs.Tree.{Nil}
 use Rattle.ld_terms.specs.Item.{One, IsSmall}
 use Rattle.ld_terms.specs.Entry.{Entry, Env, Defined, Primitive}
-use Rattle.ld_terms.specs.Known.{Note, EntryNote}
 use Rattle.fb_parse.specs.Items.{SurfaceItem}
 use Rattle.ld_infer.specs.Reading as rule
 use Rattle.ld_defrules.specs.Judged as rules

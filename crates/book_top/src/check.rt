@@ -1,5 +1,5 @@
 //! The check of a parsed book, and the writing of its derivation.
-ghost use Rattle.std.specs.Prelude.{◌≡◌, ◌<◌, ◌≤◌, ◌+◌, ◌^◌, ◌++◌, [], true, IsTrue, length, All, IfSome, IfOk, OnOk, OnErr, IsErrOf};
+ghost use Rattle.std.specs.Prelude.{◌≡◌, ◌<◌, ◌≤◌, ◌+◌, ◌^◌, ◌++◌, [], true, IsTrue, length, All, Some, IfSome, IfErr, OnOk, OnErr, IsErrOf};
 ghost use Rattle.fb_base.specs.Desk.{Rose, OthersStay, content_of};
 ghost use Rattle.fb_parse.specs.ItemView.{item_view, items_view};
 ghost use Rattle.ld_terms.specs.Tree.{Nil};
@@ -9,9 +9,10 @@ ghost use Rattle.dr_text.specs.Spelling.{header as header_bytes};
 ghost use Rattle.dr_text.specs.Written.{IsWritten, last_judgement};
 ghost use Rattle.dr_text.specs.Derives.{Derives};
 ghost use Rattle.ld_infer.specs.Standing.{known, env, context};
-ghost use Rattle.book_top.specs.declared.status.Summary.{Summary};
 ghost use Rattle.book_top.specs.Desk.{OnlyTarget};
-ghost use Rattle.book_top.specs.Chunks.{WritesChunk, IsCheckDone};
+ghost use Rattle.book_top.specs.Chunks.{WritesChunk};
+ghost use Rattle.book_top.specs.Left.{BeginsFile};
+ghost use Rattle.book_top.specs.Checked.{stop_at, StopsItem, StopsEnd, IsChecked};
 ghost use Rattle.book_top.specs.Judged.{IsNameSpan, IsAccepted};
 
 use crate::item::{ItemStop, judge_item};
@@ -28,7 +29,7 @@ use std::alloc::Global;
 pub enum Stop {
     Desk,
     Memory,
-    /// The item of this number, counted from 0, isn't accepted.
+    /// The item of this number, counted from 1, isn't accepted.
     Item(u64, Span, ItemStop),
 }
 
@@ -72,7 +73,9 @@ fn write_chunk<D: Desk>(
     ensures written { OnOk result (writer.new.written ≡ length theory.now.kept) }
     ensures sound { OnOk result (IsSound theory.now.items theory.now.kept) }
     ensures stays { OnlyTarget (D.seen desk.old) (D.seen desk.new) }
+    ensures failed { IsErrOf result DeskFault.Failed → writer.new.written ≡ length theory.now.kept }
     ensures desk { IsErrOf result DeskFault.Failed → Rose (D.seen desk.old).faults (D.seen desk.new).faults }
+    ensures never { IsErrOf result DeskFault.Failed → IsTrue (D.seen desk.old).tells_files → IsTrue (D.seen desk.old).sound → ⊥ }
 {
     let mut out = Vec::new(alloc);
     writer.chunk(theory.bank(), theory.deriv(), ended, &mut out)?;
@@ -102,7 +105,9 @@ fn check_item<D: Desk>(
     ensures accepted { OnOk result (IsAccepted theory.old theory.new (item_view text.now item.now)) }
     ensures flat { OnOk result (context theory.new ≡ Nil) }
     ensures stays { OnlyTarget (D.seen desk.old) (D.seen desk.new) }
+    ensures stops { IfErr result (λ stop. StopsItem theory.old theory.new writer.old writer.new (D.seen desk.old) (D.seen desk.new) (item_view text.now item.now) number stop) }
     ensures desk { IsErrOf result Stop.Desk → Rose (D.seen desk.old).faults (D.seen desk.new).faults }
+    ensures never { IsErrOf result Stop.Desk → IsTrue (D.seen desk.old).tells_files → IsTrue (D.seen desk.old).sound → ⊥ }
 {
     if let Err(stop) = judge_item(alloc, theory, text, item) {
         return Err(refused(stop, number, item.span));
@@ -111,8 +116,9 @@ fn check_item<D: Desk>(
     Ok(())
 }
 
+// Where a check stops for an item of this number.
 fn refused(stop: ItemStop, number: u64, at: Span) -> Stop
-    ensures { result ≡ Stop.Desk → ⊥ }
+    ensures { result ≡ stop_at number at stop }
 {
     match stop {
         ItemStop::Memory => Stop::Memory,
@@ -124,13 +130,16 @@ fn refused(stop: ItemStop, number: u64, at: Span) -> Stop
 fn begin<D: Desk>(desk: &mut D, out: &str) -> Result<(), DeskFault>
     ensures started { OnOk result ((D.seen desk.new).started ≡ true) }
     ensures target { OnOk result (IsTrue (D.seen desk.old).tells_files → (D.seen desk.new).target ≡ out.now) }
-    ensures header { OnOk result (IsTrue (D.seen desk.old).tells_files → content_of (D.seen desk.new) out.now ≡ header_bytes) }
+    ensures header { OnOk result (IsTrue (D.seen desk.old).tells_files → (D.seen desk.new).files out.now ≡ Some header_bytes) }
+    ensures begun { OnErr result (IsTrue (D.seen desk.old).tells_files → BeginsFile ((D.seen desk.old).files out.now) ((D.seen desk.new).files out.now)) }
     ensures told { (D.seen desk.new).tells_files ≡ (D.seen desk.old).tells_files }
     ensures tells_said { (D.seen desk.new).tells_said ≡ (D.seen desk.old).tells_said }
     ensures said { (D.seen desk.new).said ≡ (D.seen desk.old).said }
     ensures others { IsTrue (D.seen desk.old).tells_files → OthersStay (D.seen desk.old) (D.seen desk.new) out.now }
     ensures never_falls { (D.seen desk.old).faults ≤ (D.seen desk.new).faults }
+    ensures sound_stays { (D.seen desk.new).sound ≡ (D.seen desk.old).sound }
     ensures desk { IsErrOf result DeskFault.Failed → Rose (D.seen desk.old).faults (D.seen desk.new).faults }
+    ensures never { IsErrOf result DeskFault.Failed → IsTrue (D.seen desk.old).tells_files → IsTrue (D.seen desk.old).sound → ⊥ }
 {
     desk.start(out)?;
     desk.append(header())
@@ -150,7 +159,9 @@ fn finish<D: Desk>(
         → IsWritten theory.old.items theory.old.kept writer.old (content_of (D.seen desk.old) (D.seen desk.old).target)
         → Derives (content_of (D.seen desk.new) (D.seen desk.old).target) (env theory.old) (known theory.old).notes) }
     ensures stays { OnlyTarget (D.seen desk.old) (D.seen desk.new) }
+    ensures stops { IfErr result (λ stop. StopsEnd theory.old writer.old (D.seen desk.old) (D.seen desk.new) stop) }
     ensures desk { IsErrOf result Stop.Desk → Rose (D.seen desk.old).faults (D.seen desk.new).faults }
+    ensures never { IsErrOf result Stop.Desk → IsTrue (D.seen desk.old).tells_files → IsTrue (D.seen desk.old).sound → ⊥ }
 {
     let star = theory.star_judgement()?;
     write_chunk(alloc, theory, writer, Some(star), desk)?;
@@ -167,13 +178,15 @@ pub fn check_items<D: Desk>(
 ) -> Result<Summary, Stop>
     requires names { All (λ i. IsNameSpan text.now i.name) items.now }
     requires few { length items.now ≤ 100000 }
-    ensures done { IfOk result (λ summary. IsTrue (D.seen desk.old).tells_files → IsCheckDone (content_of (D.seen desk.new) out.now) (items_view text.now items.now) summary) }
+    ensures answer { IsTrue (D.seen desk.old).tells_files → IsChecked ((D.seen desk.old).files out.now) ((D.seen desk.new).files out.now) (items_view text.now items.now) result }
     ensures others { IsTrue (D.seen desk.old).tells_files → OthersStay (D.seen desk.old) (D.seen desk.new) out.now }
     ensures never_falls { (D.seen desk.old).faults ≤ (D.seen desk.new).faults }
     ensures told { (D.seen desk.new).tells_files ≡ (D.seen desk.old).tells_files }
     ensures tells_said { (D.seen desk.new).tells_said ≡ (D.seen desk.old).tells_said }
     ensures said { (D.seen desk.new).said ≡ (D.seen desk.old).said }
+    ensures sound_stays { (D.seen desk.new).sound ≡ (D.seen desk.old).sound }
     ensures desk { IsErrOf result Stop.Desk → Rose (D.seen desk.old).faults (D.seen desk.new).faults }
+    ensures never { IsErrOf result Stop.Desk → IsTrue (D.seen desk.old).tells_files → IsTrue (D.seen desk.old).sound → ⊥ }
 {
     begin(desk, out)?;
     let mut theory = Theory::new(alloc)?;
@@ -185,7 +198,7 @@ pub fn check_items<D: Desk>(
             &mut writer,
             desk,
             text,
-            number as u64,
+            number as u64 + 1,
             item,
         )?;
     }

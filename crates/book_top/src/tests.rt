@@ -1,95 +1,255 @@
-//! Books over a desk in memory: the status, the report and the file of each.
-use crate::run;
-use fb_base::{MemDesk, Text};
+//! Runs over a desk in memory with their outcomes, worked out by hand.
+
+use crate::{LimitFault, Status, TextWhat, WhyName, run};
+use fb_base::{MemDesk, NoMemory, Span, Text};
+use ld_infer::{PathStep, RuleName};
 use std::alloc::Global;
+use std::process::Abort;
 use std::test::Fail;
 
-// A desk with this book, and a file that was there before.
-fn desk_with(alloc: Global, book: &str) -> Result<MemDesk, Fail> {
+// The derivation of the one entry `A`, a primitive of the type `*`. The chunk of the entry ends after 19 bytes.
+const ONE_PRIMITIVE: [u8; 27] =
+    *b"LDDERIV1\x01\x02\x30\x00\x00\x00\x01\x41\x01A\x00\x38\x01\x00\x00\x01\x00\x60\x01";
+
+// A desk whose file `book` holds the book and whose file `out` holds `old`. In each failing call so many bytes pass.
+fn desk_with(alloc: Global, book: &[u8], fails: &[(u64, usize)]) -> Result<MemDesk, NoMemory> {
     let mut files = Vec::new(alloc);
-    files.push((
-        Text::from_bytes(alloc, b"book").ok().ok_or("memory")?,
-        Text::from_bytes(alloc, book.as_bytes())
-            .ok()
-            .ok_or("memory")?,
-    ))?;
-    files.push((
-        Text::from_bytes(alloc, b"out").ok().ok_or("memory")?,
-        Text::from_bytes(alloc, b"before").ok().ok_or("memory")?,
-    ))?;
-    Ok(
-        MemDesk::new(alloc, files, Vec::new(alloc))
-            .ok()
-            .ok_or("memory")?,
-    )
+    for (name, content) in [("book", book), ("out", b"old".as_slice())] {
+        let name = Text::from_bytes(alloc, name.as_bytes())?;
+        let content = Text::from_bytes(alloc, content)?;
+        files.push((name, content)).map_err(|_| NoMemory)?;
+    }
+    let fails = Vec::from_slice(alloc, fails).map_err(|_| NoMemory)?;
+    MemDesk::new(alloc, files, fails)
+}
+
+// Checks the book, compares the status and what is said, and gives the desk.
+fn check(
+    rt: &impl Abort,
+    alloc: Global,
+    book: &[u8],
+    code: u8,
+    report: &str,
+) -> Result<MemDesk, Fail> {
+    let mut desk = desk_with(alloc, book, &[])?;
+    let status = run(alloc, &["check", "book", "out"], &mut desk);
+    assert_eq!(rt; status.code(), code, "{status:?}");
+    assert_eq!(rt; desk.said(), report.as_bytes());
+    assert!(rt; desk.file("book") == Some(book));
+    Ok(desk)
 }
 
 #[test]
-fn books_are_answered(rt: HostRuntime) -> Result<(), Fail> {
-    let alloc = rt.alloc();
-    let rows: [(&str, u8, &str); 12] = [
-        ("", 0, "done: 0 items, 0 entries, 0 steps\n"),
-        ("A := prim : *\n", 0, "done: 1 items, 1 entries, 0 steps\n"),
-        (
-            "A := prim : *\nf := prim : A -> A\n",
-            0,
-            "done: 2 items, 2 entries, 0 steps\n",
-        ),
-        (
-            "A := prim : *\na := prim : A\nb := a : A\n",
-            0,
-            "done: 3 items, 3 entries, 0 steps\n",
-        ),
-        ("A := prim : *\nA := prim : *\n", 1, "text\n"),
-        ("a := prim : B\n", 1, "text\n"),
-        ("A := prim\n", 1, "text\n"),
-        ("A := prim : *\nx := A : box\n", 3, "rule\n"),
-        ("x := prim : box\n", 3, "rule\n"),
-        ("x := box : *\n", 3, "rule\n"),
-        (
-            "A := prim : *\na := prim : A\nd := A : *\nb := a : d\n",
-            1,
-            "text\n",
-        ),
-        ("[x : *]\n", 1, "text\n"),
-    ];
-    for (book, code, said) in rows {
-        let mut desk = desk_with(alloc, book)?;
-        let status = run(alloc, &["check", "book", "out"], &mut desk);
-        assert_eq!(rt; status.code(), code);
-        assert_eq!(rt; desk.said(), said.as_bytes());
+fn accepted_books(rt: HostRuntime) -> Result<(), Fail> {
+    let empty = b"LDDERIV1\x01\x02\x30\x00\x00\x00\x01\x60\x00".as_slice();
+    let line =
+        b"LDDERIV1\x01\x02\x30\x00\x00\x00\x01\x40\x01K\x00\x37\x01\x00\x00\x01\x00\x60\x01".as_slice();
+    let one = "done: 1 items, 1 entries, 0 steps\n";
+    for (book, report, derivation) in [
+        ("", "done: 0 items, 0 entries, 0 steps\n", empty),
+        ("A := prim : *", one, ONE_PRIMITIVE.as_slice()),
+        ("K := * : box", one, line),
+    ] {
+        let desk = check(&rt, rt.alloc(), book.as_bytes(), 0, report)?;
+        assert!(rt; desk.file("out") == Some(derivation), "{book}");
+    }
+    for book in [
+        "A := prim : *\nf := prim : A -> A",
+        "A := prim : *\nB := (A -> A) -> A : *",
+        "A := * -> * : box\nf := prim : * -> *",
+    ] {
+        let two = "done: 2 items, 2 entries, 0 steps\n";
+        let desk = check(&rt, rt.alloc(), book.as_bytes(), 0, two)?;
+        assert!(rt;
+            desk.file("out")
+                .is_some_and(|file| file.starts_with(b"LDDERIV1"))
+        );
     }
     Ok(())
 }
 
 #[test]
-fn an_empty_book_has_the_shortest_file(rt: HostRuntime) -> Result<(), Fail> {
-    let alloc = rt.alloc();
-    let mut desk = desk_with(alloc, "")?;
-    let status = run(alloc, &["check", "book", "out"], &mut desk);
-    assert_eq!(rt; status.code(), 0);
-    let wanted = b"LDDERIV1\x01\x02\x30\x00\x00\x00\x01\x60\x00";
-    assert_eq!(rt; desk.file("out").ok_or("no file")?, wanted.as_slice());
+fn refused_items(rt: HostRuntime) -> Result<(), Fail> {
+    let header = &ONE_PRIMITIVE[..8];
+    let first = &ONE_PRIMITIVE[..19];
+    for (book, code, report, left) in [
+        ("P := prim : box", 3, "rule\n", header),
+        ("x := y : *", 1, "text\n", header),
+        ("f := fun x : * . x : *", 1, "text\n", header),
+        ("[A : *]", 1, "text\n", header),
+        ("| A := prim : *", 1, "text\n", header),
+        ("A := prim : *\nA := prim : *", 1, "text\n", first),
+        ("A := prim : *\nA := prim : box", 1, "text\n", first),
+        ("A := prim : *\nx := A : box", 3, "rule\n", first),
+        ("A := prim : *\nx := A A : *", 1, "text\n", first),
+        ("A := prim : *\nx := by intro A : *", 1, "text\n", first),
+    ] {
+        let desk = check(&rt, rt.alloc(), book.as_bytes(), code, report)?;
+        assert!(rt; desk.file("out") == Some(left), "{book}");
+    }
+    // A comparison of unequal types is not built.
+    let book = "A := prim : *\na := prim : A\nd := A : *\nb := a : d";
+    let desk = check(&rt, rt.alloc(), book.as_bytes(), 1, "text\n")?;
+    assert!(rt; desk.file("out").is_some_and(|file| file.starts_with(first)));
     Ok(())
 }
 
 #[test]
-fn other_words_are_usage(rt: HostRuntime) -> Result<(), Fail> {
-    let alloc = rt.alloc();
-    let mut desk = desk_with(alloc, "")?;
-    assert_eq!(rt; run(alloc, &["check", "book"], &mut desk).code(), 2);
-    assert_eq!(rt; run(alloc, &["check", "-book", "out"], &mut desk).code(), 2);
-    assert_eq!(rt; desk.said(), b"usage\nusage\n".as_slice());
-    assert_eq!(rt; desk.file("out").ok_or("no file")?, b"before".as_slice());
+fn no_books(rt: HostRuntime) -> Result<(), Fail> {
+    for book in [
+        b"x := * :".as_slice(),
+        b"x := $ : *".as_slice(),
+        b"\xff".as_slice(),
+        b"x".as_slice(),
+    ] {
+        let desk = check(&rt, rt.alloc(), book, 1, "text\n")?;
+        assert!(rt; desk.file("out") == Some(b"old".as_slice()));
+    }
+    Ok(())
+}
+
+// The answer for a book.
+fn answer(alloc: Global, book: &str) -> Result<Status, NoMemory> {
+    let mut desk = desk_with(alloc, book.as_bytes(), &[])?;
+    Ok(run(alloc, &["check", "book", "out"], &mut desk))
+}
+
+#[test]
+fn places_of_refusals(rt: HostRuntime) -> Result<(), Fail> {
+    for (book, what, start, end) in [
+        ("x := y : *", TextWhat::Unknown, 5, 6),
+        // The names of the stated type come first, and those of the body in text order.
+        ("x := y : z", TextWhat::Unknown, 9, 10),
+        ("x := y -> z : *", TextWhat::Unknown, 5, 6),
+        ("A := prim : * x := y : A", TextWhat::Unknown, 19, 20),
+        ("A := prim : *\nA := y : z", TextWhat::NameTaken, 14, 15),
+        ("A := prim : *\nx := A A : *", TextWhat::NotBuilt, 19, 22),
+        ("x := * :", TextWhat::Syntax, 8, 8),
+        ("x := $ : *", TextWhat::BadByte, 5, 5),
+    ] {
+        match answer(rt.alloc(), book)? {
+            Status::Text(fault) => {
+                assert_eq!(rt;
+                    (fault.what, fault.at.start, fault.at.end),
+                    (what, start, end),
+                    "{book}"
+                );
+            }
+            status => assert!(rt; false, "{book}: {status:?}"),
+        }
+    }
     Ok(())
 }
 
 #[test]
-fn a_missing_book_is_a_fault_of_the_desk(rt: HostRuntime) -> Result<(), Fail> {
-    let alloc = rt.alloc();
-    let mut desk = desk_with(alloc, "")?;
-    assert_eq!(rt; run(alloc, &["check", "none", "out"], &mut desk).code(), 5);
-    assert_eq!(rt; desk.said().len(), 0);
-    assert_eq!(rt; desk.file("out").ok_or("no file")?, b"before".as_slice());
+fn premises_that_fail(rt: HostRuntime) -> Result<(), Fail> {
+    for (book, item, rule, premise, step, why) in [
+        (
+            "P := prim : box",
+            1,
+            RuleName::DefPrim,
+            2,
+            PathStep::Of,
+            WhyName::NoType,
+        ),
+        (
+            "P := box : *",
+            1,
+            RuleName::Def,
+            2,
+            PathStep::Body,
+            WhyName::NoType,
+        ),
+        (
+            "A := prim : *\nx := A : box",
+            2,
+            RuleName::Def,
+            2,
+            PathStep::Body,
+            WhyName::NotSame,
+        ),
+    ] {
+        match answer(rt.alloc(), book)? {
+            Status::Rule(fault) => {
+                assert_eq!(rt;
+                    (fault.item, fault.rule, fault.premise, fault.why),
+                    (item, rule, premise, why),
+                    "{book}"
+                );
+                assert!(rt;
+                    fault.path.len() > 0 && fault.path.step(0) == step,
+                    "{book}"
+                );
+            }
+            status => assert!(rt; false, "{book}: {status:?}"),
+        }
+    }
+    Ok(())
+}
+
+#[test]
+fn limits(rt: HostRuntime) -> Result<(), Fail> {
+    let mut book = vec![in rt.alloc(); b'a'; 4_194_304]?;
+    book[0] = b'#';
+    check(
+        &rt,
+        rt.alloc(),
+        &book,
+        0,
+        "done: 0 items, 0 entries, 0 steps\n",
+    )?;
+    book.push(b'a')?;
+    let desk = check(&rt, rt.alloc(), &book, 6, "limit\n")?;
+    assert!(rt; desk.file("out") == Some(b"old".as_slice()));
+    Ok(())
+}
+
+// Runs words that ask for nothing that is known.
+fn unknown(rt: &impl Abort, alloc: Global, words: &[&str]) -> Result<(), Fail> {
+    let mut desk = desk_with(alloc, b"A := prim : *", &[])?;
+    assert_eq!(rt; run(alloc, words, &mut desk).code(), 2);
+    assert_eq!(rt; desk.said(), b"usage\n".as_slice());
+    assert!(rt; desk.file("out") == Some(b"old".as_slice()));
+    Ok(())
+}
+
+#[test]
+fn words(rt: HostRuntime) -> Result<(), Fail> {
+    unknown(&rt, rt.alloc(), &["check", "book", "-out"])?;
+    unknown(&rt, rt.alloc(), &["check", "--help", "out"])?;
+    unknown(&rt, rt.alloc(), &["verify", "book", "out"])?;
+    unknown(&rt, rt.alloc(), &["check", "book"])?;
+    unknown(&rt, rt.alloc(), &[])?;
+    // A book and its derivation may be one file, and `-` is a name.
+    let mut desk = desk_with(rt.alloc(), b"A := prim : *", &[])?;
+    assert_eq!(rt;
+        run(rt.alloc(), &["check", "book", "book"], &mut desk).code(),
+        0
+    );
+    assert!(rt; desk.file("book") == Some(ONE_PRIMITIVE.as_slice()));
+    assert_eq!(rt;
+        run(rt.alloc(), &["check", "-", "out"], &mut desk).code(),
+        5
+    );
+    Ok(())
+}
+
+#[test]
+fn failing_calls(rt: HostRuntime) -> Result<(), Fail> {
+    // Fetch, start, the header, the item's chunk, the end, the report.
+    for (call, passed, left) in [
+        (0, 0, b"old".as_slice()),
+        (1, 0, b"old".as_slice()),
+        (2, 3, &ONE_PRIMITIVE[..3]),
+        (3, 5, &ONE_PRIMITIVE[..13]),
+        (4, 2, &ONE_PRIMITIVE[..21]),
+        (5, 2, ONE_PRIMITIVE.as_slice()),
+    ] {
+        let mut desk = desk_with(rt.alloc(), b"A := prim : *", &[(call, passed)])?;
+        let status = run(rt.alloc(), &["check", "book", "out"], &mut desk);
+        assert_eq!(rt; status.code(), 5, "call {call}");
+        assert!(rt; desk.file("out") == Some(left), "call {call}");
+        assert_eq!(rt; desk.faults(), 1);
+    }
     Ok(())
 }

@@ -1,11 +1,10 @@
 //! The top call: what the words ask for, and one report.
-ghost use Rattle.std.specs.Prelude.{◌≡◌, ◌≤◌, ◌<◌, ◌++◌, ◌⊎◌, ℕ, List, All, IfOk, IfErr, IsTrue, IsErrOf, Some, length};
+ghost use Rattle.std.specs.Prelude.{◌≡◌, ◌≢◌, ◌⊎◌, ◌≤◌, ℕ, List, None, IfOk, IsTrue, IsErrOf, length};
 ghost use Rattle.fb_base.specs.Desk.{Rose, OthersStay};
-ghost use Rattle.book_top.specs.declared.status.Summary.{Summary};
-ghost use Rattle.book_top.specs.Report.{done_text};
 ghost use Rattle.book_top.specs.Words.{texts, IsCheck, IsNoCommand};
-ghost use Rattle.book_top.specs.Top.{IsDone, IsFetched};
-ghost use Rattle.book_top.specs.Run.{DoesCheck, IsUnasked, AnswersFault, AnswersStop, IsRuleFault};
+ghost use Rattle.book_top.specs.Desk.{OnlySays};
+ghost use Rattle.book_top.specs.Top.{IsFetched, AnswersNoCommand, Checks, Outcome, IsSaid};
+ghost use Rattle.book_top.specs.Checked.{AnswersFault, AnswersStop, IsRuleFault};
 
 use crate::check::{Stop, check_items};
 use crate::item::ItemStop;
@@ -22,14 +21,20 @@ use std::alloc::Global;
 const BOOK_BYTES: usize = 4_194_304;
 
 /// Does what the words of the command line ask for, and says one report.
+///
+/// `check BOOK OUT` reads the book, and only when it is parsed begins the file OUT, so that OUT may be the book's own
+/// name. The items are judged in order, each in the empty context; the records of each are written before the next is
+/// judged.
 pub fn run<D: Desk>(alloc: Global, words: &[&str], desk: &mut D) -> Status
-    ensures done { (summary : Summary) → result ≡ Status.Done summary → IsTrue (D.seen desk.old).tells_files
-        → DoesCheck (D.seen desk.old) (D.seen desk.new) (texts words.now) summary }
+    ensures outcome { IsTrue (D.seen desk.old).tells_files → Outcome (D.seen desk.old).files (D.seen desk.new).files (texts words.now) result }
     ensures usage { result ≡ Status.Usage → IsNoCommand (texts words.now) }
-    ensures asked { IsNoCommand (texts words.now) → IsUnasked result }
+    ensures no_command { IsNoCommand (texts words.now) → AnswersNoCommand result }
+    ensures only_says { IsNoCommand (texts words.now) → OnlySays (D.seen desk.old) (D.seen desk.new) }
     ensures others { (book out : List ℕ) → IsCheck (texts words.now) book out → IsTrue (D.seen desk.old).tells_files → OthersStay (D.seen desk.old) (D.seen desk.new) out }
-    ensures files { IsNoCommand (texts words.now) → (D.seen desk.new).files ≡ (D.seen desk.old).files }
+    ensures said { IsTrue (D.seen desk.old).tells_said → IsSaid (D.seen desk.old).said (D.seen desk.new).said result }
     ensures desk { result ≡ Status.Desk → Rose (D.seen desk.old).faults (D.seen desk.new).faults }
+    ensures absent { IsTrue (D.seen desk.old).tells_files → IsTrue (D.seen desk.old).sound → result ≡ Status.Desk
+        → (book : List ℕ) × (out : List ℕ) × IsCheck (texts words.now) book out × ((D.seen desk.old).files book ≡ None) }
 {
     match command(words) {
         Some(asked) => {
@@ -40,17 +45,14 @@ pub fn run<D: Desk>(alloc: Global, words: &[&str], desk: &mut D) -> Status
     }
 }
 
-// Says the report of an answer.
+// Says the report of an answer; where that fails, the answer is another.
 fn say<D: Desk>(alloc: Global, desk: &mut D, status: Status) -> Status
-    ensures done { (summary : Summary) → result ≡ Status.Done summary → status ≡ Status.Done summary }
-    ensures usage { result ≡ Status.Usage → status ≡ Status.Usage }
-    ensures unasked { status ≡ Status.Usage → IsUnasked result }
-    ensures said { (summary : Summary) → result ≡ Status.Done summary → IsTrue (D.seen desk.old).tells_said
-        → (D.seen desk.new).said ≡ (D.seen desk.old).said ++ done_text summary }
-    ensures files { (D.seen desk.new).files ≡ (D.seen desk.old).files }
-    ensures tells { (D.seen desk.new).tells_said ≡ (D.seen desk.old).tells_said }
+    ensures same { (result ≡ status) ⊎ (result ≡ Status.Desk) ⊎ (result ≡ Status.Memory) }
+    ensures only { OnlySays (D.seen desk.old) (D.seen desk.new) }
+    ensures said { IsTrue (D.seen desk.old).tells_said → IsSaid (D.seen desk.old).said (D.seen desk.new).said result }
     ensures never_falls { (D.seen desk.old).faults ≤ (D.seen desk.new).faults }
     ensures desk { result ≡ Status.Desk → (status ≡ Status.Desk) ⊎ Rose (D.seen desk.old).faults (D.seen desk.new).faults }
+    ensures sound { result ≡ Status.Desk → IsTrue (D.seen desk.old).tells_files → IsTrue (D.seen desk.old).sound → status ≡ Status.Desk }
 {
     if let Status::Desk = status {
         return status;
@@ -67,15 +69,16 @@ fn say<D: Desk>(alloc: Global, desk: &mut D, status: Status) -> Status
 
 // The check of a book.
 fn check<D: Desk>(alloc: Global, book: &str, out: &str, desk: &mut D) -> Status
-    ensures done { (summary : Summary) → result ≡ Status.Done summary → IsTrue (D.seen desk.old).tells_files
-        → IsDone (D.seen desk.old) (D.seen desk.new) book.now out.now summary }
+    ensures checks { IsTrue (D.seen desk.old).tells_files → Checks (D.seen desk.old).files (D.seen desk.new).files book.now out.now result }
     ensures no_usage { result ≡ Status.Usage → ⊥ }
     ensures others { IsTrue (D.seen desk.old).tells_files → OthersStay (D.seen desk.old) (D.seen desk.new) out.now }
     ensures said { (D.seen desk.new).said ≡ (D.seen desk.old).said }
     ensures tells_said { (D.seen desk.new).tells_said ≡ (D.seen desk.old).tells_said }
     ensures tells_files { (D.seen desk.new).tells_files ≡ (D.seen desk.old).tells_files }
     ensures never_falls { (D.seen desk.old).faults ≤ (D.seen desk.new).faults }
+    ensures sound_stays { (D.seen desk.new).sound ≡ (D.seen desk.old).sound }
     ensures desk { result ≡ Status.Desk → Rose (D.seen desk.old).faults (D.seen desk.new).faults }
+    ensures absent { result ≡ Status.Desk → IsTrue (D.seen desk.old).tells_files → IsTrue (D.seen desk.old).sound → (D.seen desk.old).files book.now ≡ None }
 {
     let text = match fetch(alloc, desk, book) {
         Ok(text) => text,
@@ -94,12 +97,14 @@ fn check<D: Desk>(alloc: Global, book: &str, out: &str, desk: &mut D) -> Status
 
 // The whole book.
 fn fetch<D: Desk>(alloc: Global, desk: &mut D, book: &str) -> Result<Vec<u8>, Status>
-    ensures bytes { IfOk result (λ text. IsTrue (D.seen desk.old).tells_files → IsFetched (D.seen desk.old) book.now text.items) }
+    ensures bytes { IfOk result (λ text. IsTrue (D.seen desk.old).tells_files → IsFetched (D.seen desk.old).files book.now text.items) }
     ensures short { IfOk result (λ text. length text.items ≤ 4194304) }
     ensures same { D.seen desk.new ≡ record (D.seen desk.old) { faults = (D.seen desk.new).faults } }
     ensures never_falls { (D.seen desk.old).faults ≤ (D.seen desk.new).faults }
     ensures desk { IsErrOf result Status.Desk → Rose (D.seen desk.old).faults (D.seen desk.new).faults }
-    ensures not_done { (summary : Summary) → IsErrOf result (Status.Done summary) → ⊥ }
+    ensures stopped { (status : Status) → IsErrOf result status → IsTrue (D.seen desk.old).tells_files → (out : List ℕ)
+        → Checks (D.seen desk.old).files (D.seen desk.new).files book.now out status }
+    ensures absent { IsErrOf result Status.Desk → IsTrue (D.seen desk.old).tells_files → IsTrue (D.seen desk.old).sound → (D.seen desk.old).files book.now ≡ None }
     ensures no_usage { IsErrOf result Status.Usage → ⊥ }
 {
     match desk.fetch(alloc, book, BOOK_BYTES + 1) {
@@ -116,7 +121,7 @@ fn fetch<D: Desk>(alloc: Global, desk: &mut D, book: &str) -> Result<Vec<u8>, St
 
 // The answer for a text that is no book.
 fn parse_answer(fault: ParseFault) -> Status
-    ensures answers { AnswersFault fault result }
+    ensures { AnswersFault fault result }
 {
     match fault {
         ParseFault::Lex(LexFault::BadByte(at)) => text_answer(TextWhat::BadByte, at),
@@ -141,7 +146,7 @@ fn text_answer(what: TextWhat, at: usize) -> Status
 
 // The answer for a check that stopped.
 fn stop_answer(stop: Stop) -> Status
-    ensures answers { AnswersStop stop result }
+    ensures { AnswersStop stop result }
 {
     match stop {
         Stop::Desk => Status::Desk,
@@ -155,9 +160,9 @@ fn stop_answer(stop: Stop) -> Status
     }
 }
 
-// The refusal of an item, whose number is counted from 0, by a rule.
-fn rule_fault(number: u64, at: Span, failure: Failure) -> RuleFault
-    ensures { IsRuleFault at failure result }
+// The refusal of an item by a rule.
+fn rule_fault(item: u64, at: Span, failure: Failure) -> RuleFault
+    ensures { IsRuleFault item at failure result }
 {
     let why = match failure.why {
         Why::NoType => WhyName::NoType,
@@ -165,7 +170,7 @@ fn rule_fault(number: u64, at: Span, failure: Failure) -> RuleFault
     };
     RuleFault {
         side: Side::Book,
-        item: number.saturating_add(1),
+        item,
         at,
         rule: failure.rule,
         premise: failure.premise,
