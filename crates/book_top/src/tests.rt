@@ -121,7 +121,7 @@ fn places_of_refusals(rt: HostRuntime) -> Result<(), Fail> {
         // The names of the stated type come first, and those of the body in text order.
         ("x := y : z", TextWhat::Unknown, 9, 10),
         ("x := y -> z : *", TextWhat::Unknown, 5, 6),
-        ("A := prim : * x := y : A", TextWhat::Unknown, 19, 20),
+        ("A := prim : *\nx := y : A", TextWhat::Unknown, 19, 20),
         ("A := prim : *\nA := y : z", TextWhat::NameTaken, 14, 15),
         ("A := prim : *\nx := A A : *", TextWhat::NotBuilt, 19, 22),
         ("x := * :", TextWhat::Syntax, 8, 8),
