@@ -25,7 +25,7 @@ use Rattle.book_top.specs.Desk.{OnlyTarget}
 use Rattle.book_top.specs.Chunks.{IsCheckDone}
 use Rattle.book_top.specs.Judged.{IsAccepted}
 use Rattle.book_top.specs.Left.{IsFront}
-use Rattle.book_top.proofs.Sessions.{front_of}
+use Rattle.book_top.proofs.Sessions.{front_of, never_empty}
 
 pub record Checks (before now : Seen) (out : List ℕ) (all : List SurfaceItem) (index : ℕ) (theory : Standing) (writer : Writer) : Type 0 where
   pub told : now.tells_files ≡ before.tells_files
@@ -70,7 +70,7 @@ checks_none before now out all theory writer told tells_said said started target
     let is : IsTrue before.tells_files → content_of now out ≡ header = λ t. ap (λ (o : Option (List ℕ)). unwrap_or o []) (file t) in
     let first : IsWritten theory.items theory.kept writer header = written_more theory.items [] theory.kept writer header (record { front = refl }) (fresh theory.items) in
     let W : List ℕ → Type 0 = λ bs. IsWritten theory.items theory.kept writer bs in
-    let front : IsFront header [] [] = front_of theory.items [] writer header (omega (arith, (fresh theory.items).within)) (fresh theory.items) in
+    let front : IsFront header [] [] = front_of theory.items [] writer header (omega (arith, (fresh theory.items).within)) (fresh theory.items) (λ e. refl) in
     let FE : Env → Type 0 = λ e. IsFront header e [] in
     let FN : List Note → Type 0 = λ ns. IsFront header (env theory) ns in
     let F : List ℕ → Type 0 = λ bs. IsFront bs (env theory) (known theory).notes in
@@ -117,7 +117,7 @@ checks_more before now after out text items index i theory next writer later h b
       started = stays.started ∙ h.started;
       target = λ t. stays.target ∙ h.target t;
       written = written;
-      front = λ t. front_of next.items next.kept later (content_of after out) count (written t);
+      front = λ t. front_of next.items next.kept later (content_of after out) count (written t) (λ e. absurd (never_empty _ _ (sym accepted.adds.notes ∙ e)));
       count = omega arith;
       sound = sound;
       flat = flat;

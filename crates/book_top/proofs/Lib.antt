@@ -6,3 +6,4 @@ pub mod Sessions
 pub mod Checks
 pub mod Runs
 pub mod Stops
+pub mod Reports

@@ -1,5 +1,5 @@
 -- From the parts of a run to what it answers.
-use Rattle.std.proofs.Common.{◌≡◌, ◌⊎◌, inl, inr, refl, Ok, Err, ◌<◌, ◌≤◌, ◌+◌, ℕ, zero, suc, List, [], ◌∷◌, length, take, get_or, ap, sym, subst, ◌∙◌, arith}
+use Rattle.std.proofs.Common.{IsTrue, Option, Some, ◌≢◌, ◌≡◌, ◌⊎◌, inl, inr, refl, Ok, Err, ◌<◌, ◌≤◌, ◌+◌, ℕ, zero, suc, List, [], ◌∷◌, length, take, get_or, ap, sym, subst, ◌∙◌, arith}
 use Rattle.std.proofs.lemmas.List.{take_all, length-take, append-nil}
 use Rattle.ld_terms.specs.Entry.{Env}
 use Rattle.ld_terms.specs.Known.{Note}
@@ -27,10 +27,13 @@ use Rattle.book_top.specs.declared.check.Stop.TheVariants as stop
 use Rattle.book_top.specs.declared.item.ItemStop.{ItemStop}
 use Rattle.book_top.specs.declared.item.ItemStop.TheVariants as item
 use Rattle.book_top.specs.Verdict.{Verdict}
-use Rattle.book_top.specs.Left.{Files, IsLeft, between, whole as whole_left}
+use Rattle.book_top.specs.Left.{Files, IsKept, IsLeft, kept, between, whole as whole_left}
 use Rattle.book_top.specs.Checked.{IsVerdict, IsChecked, IsWhyOf, AnswersFault, AnswersStop}
-use Rattle.book_top.specs.Top.{IsFetched, IsWhy, AnswersItem, AnswersNoCommand, Leaves, untouched, left, Checks, done, too_long, no_book, item_refused, IsSaid}
+use Rattle.book_top.specs.Top.{IsFetched, IsWhy, AnswersItem, AnswersNoCommand, Leaves, untouched, left, Checks, done, too_long, no_book, item_refused, Outcome, IsSaid, IsAnswerOf}
 use Rattle.book_top.specs.Top as top
+use Rattle.book_top.specs.Words.{IsCheck, IsNoCommand}
+use Rattle.book_top.specs.Said.{HasNoPlace, SaysOf}
+use Rattle.fb_base.specs.Desk.{Seen}
 
 -- fewer bytes than were asked for are all of them
 pub whole : (content items : List ℕ) (most : ℕ) → items ≡ take (most + 1) content → length items ≤ most → items ≡ content
@@ -85,7 +88,7 @@ item_answers i before number v item.High answer same is a =
     subst A (sym same) (subst B (sym a) refl)
 item_answers i before number v (item.Refused f) (status.Rule r) same is a =
     let A : Verdict → Type 0 = λ w. AnswersItem i before w (status.Rule r) in
-    subst A (sym same.1) (record { item = a.item ∙ is; at = a.place; rule = a.rule; premise = a.premise; path = a.path; why = why_is same.0 f.why r a.why })
+    subst A (sym same.1) (record { side = a.side; item = a.item ∙ is; at = a.place; rule = a.rule; premise = a.premise; path = a.path; why = why_is same.0 f.why r a.why })
 item_answers i before number v (item.Refused f) (status.Done s) same is a = absurd a
 item_answers i before number v (item.Refused f) (status.Text s) same is a = absurd a
 item_answers i before number v (item.Refused f) status.Usage same is a = absurd a
@@ -121,9 +124,9 @@ module _ (before after : Files) (book out bytes text other : List ℕ) (items : 
         no_steps = d.no_steps;
       })
 
-  leaves : (after out ≡ before out) ⊎ IsLeft (items_view bytes items) (after out) → Leaves before after book out
-  leaves (inl e) = untouched e
-  leaves (inr h) = left bytes (items_view bytes items) fetched parsed h
+  leaves : (Begun : List SurfaceItem → Option (List ℕ) → Type 0) → (after out ≡ before out) ⊎ Begun (items_view bytes items) (after out) → Leaves Begun before after book out
+  leaves Begun (inl e) = untouched e
+  leaves Begun (inr h) = left bytes (items_view bytes items) fetched parsed h
 
   pub stop_checks : (s : Stop) (answer : Status) → IsChecked (before out) (after out) (items_view other items) (Err s) → AnswersStop s answer → Checks before after book out answer
   stop_checks s answer checked answers =
@@ -133,10 +136,10 @@ module _ (before after : Files) (book out bytes text other : List ℕ) (items : 
       by_stop : (s : Stop) → IsChecked (before out) (after out) (items_view bytes items) (Err s) → AnswersStop s answer → Checks before after book out answer
       by_stop stop.Desk c a =
           let R : Status → Type 0 = λ s. Checks before after book out s in
-          subst R (sym a) (top.desk (leaves c))
+          subst R (sym a) (top.desk (leaves IsLeft c))
       by_stop stop.Memory c a =
           let R : Status → Type 0 = λ s. Checks before after book out s in
-          subst R (sym a) (top.memory (leaves c))
+          subst R (sym a) (top.memory (leaves IsKept c))
       by_stop (stop.Item n at s) c a =
           let S : Span → Type 0 = λ place. AnswersStop (stop.Item n place s) answer in
           item_refused (record {
@@ -153,34 +156,71 @@ module _ (before after : Files) (book out bytes text other : List ℕ) (items : 
           })
 
 -- what a check that was answered leaves, if the report fails
-leaves_of : (before after : Files) (book out : List ℕ) (s : Status) → Checks before after book out s → Leaves before after book out
-leaves_of before after book out s (done d) = left d.text d.items d.fetched d.parsed (whole_left d.accepted d.derives)
-leaves_of before after book out s (too_long text there long same) = untouched (ap (λ (files : Files). files out) same)
-leaves_of before after book out s (no_book h same) = untouched (ap (λ (files : Files). files out) same)
-leaves_of before after book out s (item_refused r) =
+leaves_of : (before after : Files) (book out : List ℕ) (s : Status) → s ≢ status.Desk → Checks before after book out s → Leaves IsKept before after book out
+leaves_of before after book out s other (done d) = left d.text d.items d.fetched d.parsed (whole_left d.accepted d.derives)
+leaves_of before after book out s other (too_long text there long same) = untouched (ap (λ (files : Files). files out) same)
+leaves_of before after book out s other (no_book h same) = untouched (ap (λ (files : Files). files out) same)
+leaves_of before after book out s other (item_refused r) =
     left r.text r.items r.fetched r.parsed (between (record { some = r.first.before; split = r.first.split; accepted = r.first.accepted; front = r.left }))
-leaves_of before after book out s (top.desk l) = l
-leaves_of before after book out s (top.memory l) = l
+leaves_of before after book out s other (top.desk l) = absurd (other refl)
+leaves_of before after book out s other (top.memory l) = l
+
+left_of_kept : (before after : Files) (book out : List ℕ) → Leaves IsKept before after book out → Leaves IsLeft before after book out
+left_of_kept before after book out (untouched e) = untouched e
+left_of_kept before after book out (left text items fetched parsed h) = left text items fetched parsed (kept h)
 
 -- the answer after the report was said, or wasn't
 pub said_checks : (before mid after : Files) (book out : List ℕ) (given answer : Status) → Checks before mid book out given → after ≡ mid
-    → (answer ≡ given) ⊎ (answer ≡ status.Desk) ⊎ (answer ≡ status.Memory) → Checks before after book out answer
+    → IsAnswerOf given answer → Checks before after book out answer
 said_checks before mid after book out given answer h same is =
     let F : Files → Type 0 = λ files. Checks before files book out answer in
     subst F (sym same) (by_answer is)
   where
-    by_answer : (answer ≡ given) ⊎ (answer ≡ status.Desk) ⊎ (answer ≡ status.Memory) → Checks before mid book out answer
+    by_answer : IsAnswerOf given answer → Checks before mid book out answer
     by_answer (inl e) = let R : Status → Type 0 = λ s. Checks before mid book out s in subst R (sym e) h
-    by_answer (inr (inl e)) = let R : Status → Type 0 = λ s. Checks before mid book out s in subst R (sym e) (top.desk (leaves_of before mid book out given h))
-    by_answer (inr (inr e)) = let R : Status → Type 0 = λ s. Checks before mid book out s in subst R (sym e) (top.memory (leaves_of before mid book out given h))
+    by_answer (inr (other, inl e)) =
+        let R : Status → Type 0 = λ s. Checks before mid book out s in
+        subst R (sym e) (top.desk (left_of_kept before mid book out (leaves_of before mid book out given other h)))
+    by_answer (inr (other, inr e)) = let R : Status → Type 0 = λ s. Checks before mid book out s in subst R (sym e) (top.memory (leaves_of before mid book out given other h))
 
-pub no_command_answers : (answer : Status) → (answer ≡ status.Usage) ⊎ (answer ≡ status.Desk) ⊎ (answer ≡ status.Memory) → AnswersNoCommand answer
+pub no_command_answers : (answer : Status) → IsAnswerOf status.Usage answer → AnswersNoCommand answer
 no_command_answers answer (inl e) = subst AnswersNoCommand (sym e) tt
-no_command_answers answer (inr (inl e)) = subst AnswersNoCommand (sym e) tt
-no_command_answers answer (inr (inr e)) = subst AnswersNoCommand (sym e) tt
+no_command_answers answer (inr (other, inl e)) = subst AnswersNoCommand (sym e) tt
+no_command_answers answer (inr (other, inr e)) = subst AnswersNoCommand (sym e) tt
 
 -- nothing is said of a desk that failed
-pub said_nothing : (before : List ℕ) (s : Status) → s ≡ status.Desk → IsSaid before before s
-said_nothing before s e =
-    let P : Status → Type 0 = λ answer. IsSaid before before answer in
-    subst P (sym e) (status.Desk, 0, sym (append-nil before))
+pub said_nothing : (text before : List ℕ) (s : Status) → s ≡ status.Desk → IsSaid text s before before s
+said_nothing text before s e =
+    let P : Status → Type 0 = λ answer. IsSaid text s before before answer in
+    subst P (sym e) (0, sym (append-nil before))
+
+abbrev second : List (List ℕ) → List ℕ
+second (a ∷ b ∷ rest) = b
+second words = []
+
+same_book : (words : List (List ℕ)) (book out b o : List ℕ) → IsCheck words book out → IsCheck words b o → b ≡ book
+same_book words book out b o h k = ap second (sym k.words_are ∙ h.words_are)
+
+-- the report is said of the book that was fetched
+pub says_of : (old mid new : Seen) (words : List (List ℕ)) (book out text bytes : List ℕ) (given answer : Status) → IsCheck words book out → mid.said ≡ old.said → text ≡ bytes
+    → IsSaid text given mid.said new.said answer → (IsTrue old.tells_files → old.files book ≡ Some bytes) → (IsTrue old.tells_files → Checks old.files new.files book out given)
+    → IsAnswerOf given answer → SaysOf old new words answer
+says_of old mid new words book out text bytes given answer asked same is said there checks follows =
+    let P : List ℕ → Type 0 = λ b. IsSaid text given b new.said answer in
+    record {
+      text = text;
+      given = given;
+      said = subst P same said;
+      is = λ placed told b o check. ap old.files (same_book words book out b o asked check) ∙ there told ∙ ap Some (sym is);
+      due = λ told. top.check book out asked (checks told);
+      no_command = λ unknown. absurd (unknown book out asked);
+      follows = follows;
+    }
+
+-- a report without a place
+pub says_placeless : (old mid new : Seen) (words : List (List ℕ)) (text : List ℕ) (given answer : Status) → mid.said ≡ old.said → HasNoPlace given
+    → (IsTrue old.tells_files → Outcome old.files new.files words given) → (IsNoCommand words → given ≡ status.Usage)
+    → IsAnswerOf given answer → IsSaid text given mid.said new.said answer → SaysOf old new words answer
+says_placeless old mid new words text given answer same h due unknown follows said =
+    let P : List ℕ → Type 0 = λ b. IsSaid text given b new.said answer in
+    record { text = text; given = given; said = subst P same said; is = λ placed told b o check. absurd (placed h); due = due; no_command = unknown; follows = follows }

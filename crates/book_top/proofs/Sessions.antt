@@ -1,5 +1,5 @@
 -- What stands in the file, as a theory goes on and chunks are written.
-use Rattle.std.proofs.Common.{◌≡◌, ℕ, IsTrue, List, [], ◌++◌, length, Option, Some, None, unwrap_or, Ok, Err, IsErrOf, refl, ap, sym, ◌∙◌, subst, arith}
+use Rattle.std.proofs.Common.{◌≡◌, ℕ, IsTrue, List, [], ◌∷◌, ◌++◌, length, Option, Some, None, unwrap_or, Ok, Err, IsErrOf, refl, ap, sym, ◌∙◌, subst, arith}
 use Rattle.std.proofs.lemmas.List.{take_all}
 use Rattle.fb_base.specs.Desk.{Seen, content_of}
 use Rattle.ld_terms.specs.Entry.{Env}
@@ -12,6 +12,7 @@ use Rattle.ld_record.specs.Kept.{IsSound, known_of}
 use Rattle.dr_text.specs.declared.writer.Writer.{Writer}
 use Rattle.dr_text.specs.Written.{IsWritten, IsContent}
 use Rattle.dr_text.specs.Derives.{Derives}
+use Rattle.dr_text.specs.Spelling.{header}
 use Rattle.dr_text.proofs.CallerLemmas.{written_later, written_more}
 use Rattle.ld_infer.specs.Standing.{Standing, known, env, Continues, Goes}
 use Rattle.fb_base.specs.declared.desk.DeskFault.{DeskFault}
@@ -50,10 +51,10 @@ end_written a b w v j old new goes chunk sound told h =
 
 -- what is written once all records are
 pub front_of : (items : List Item) (kept : List Kept) (w : Writer) (content : List ℕ) → w.written ≡ length kept → IsWritten items kept w content
-    → IsFront content (known_of items kept).env (known_of items kept).notes
-front_of items kept w content all h =
+    → ((known_of items kept).notes ≡ [] → content ≡ header) → IsFront content (known_of items kept).env (known_of items kept).notes
+front_of items kept w content all h none =
     let same : (final start h.records).known ≡ known_of items kept = h.known ∙ ap (known_of items) (take_all w.written kept (omega (arith, all))) in
-    record { records = h.records; spelled = h.spelled; stand = h.stand; env_is = ap (λ (k : Known). k.env) same; notes_are = ap (λ (k : Known). k.notes) same }
+    record { records = h.records; spelled = h.spelled; stand = h.stand; env_is = ap (λ (k : Known). k.env) same; notes_are = ap (λ (k : Known). k.notes) same; none = none }
 
 -- a chunk that isn't written whole, behind an item
 pub item_stopped : (a b : Standing) (w v : Writer) (old new : Seen) (i : SurfaceItem) (number : ℕ) (fault : DeskFault) → Goes a b → IsAccepted a b i
@@ -71,3 +72,8 @@ end_stopped a b w v j old new desk.Failed goes chunk = λ told sound h.
     let N : List Note → Type 0 = λ ns. Derives (content_of old old.target ++ part.next) (env a) ns in
     record { next = part.next; n = part.n; file = part.file; whole = subst N goes.adds.notes (subst E goes.adds.env part.whole) }
 end_stopped a b w v j old new desk.Memory goes chunk = chunk
+
+-- a list with one more isn't empty
+pub never_empty : (notes : List Note) (n : Note) → notes ++ n ∷ [] ≡ [] → ⊥
+never_empty [] n e = cc
+never_empty (x ∷ xs) n e = cc

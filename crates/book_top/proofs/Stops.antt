@@ -1,5 +1,5 @@
 -- How a check ends that doesn't go on: what is answered, and what stands in the file.
-use Rattle.std.proofs.Common.{◌≡◌, ◌≢◌, ◌<◌, ◌+◌, ℕ, zero, suc, Bool, IsTrue, List, [], ◌∷◌, ◌++◌, length, take, get_or, Option, Some, Err, inl, inr, ◌⊎◌, refl, ap, sym, ◌∙◌, subst, arith}
+use Rattle.std.proofs.Common.{◌≡◌, ◌≢◌, ◌<◌, ◌+◌, ℕ, zero, suc, Bool, IsTrue, List, [], ◌∷◌, ◌++◌, length, take, get_or, Option, Some, unwrap_or, Err, inl, inr, ◌⊎◌, refl, ap, sym, ◌∙◌, subst, arith}
 use Rattle.std.proofs.lemmas.List.{take_all, length-take, append-nil}
 use Rattle.fb_base.specs.Desk.{Seen, content_of}
 use Rattle.fb_base.specs.declared.desk.DeskFault.{DeskFault}
@@ -22,10 +22,10 @@ use Rattle.book_top.specs.Verdict.{Verdict, Accepted, entry_of}
 use Rattle.book_top.specs.Spells.{none, more, with_item}
 use Rattle.book_top.specs.Judged.{JudgesItem}
 use Rattle.book_top.specs.Chunks.{stop_by}
-use Rattle.book_top.specs.Left.{IsFront, IsMidway, IsNext, IsLeft, BeginsFile, begun, between, within}
+use Rattle.book_top.specs.Left.{IsFront, IsMidway, IsNext, IsKept, IsLeft, BeginsFile, empty, between, begun, within}
 use Rattle.book_top.specs.Left as left
 use Rattle.book_top.specs.Checked.{IsVerdict, stop_at, StopsItem, StopsEnd, IsChecked}
-use Rattle.book_top.proofs.Sessions.{front_of}
+use Rattle.book_top.proofs.Sessions.{front_of, never_empty}
 use Rattle.book_top.proofs.Checks.{Checks, length_view}
 
 -- an item that is refused is stopped at
@@ -56,9 +56,9 @@ module _ (before now : Seen) (out : List ℕ) (all : List SurfaceItem) (index : 
   midway rest split t = record { some = take index all; split = split; accepted = h.accepted; front = h.front t }
 
   -- what stood in the file is there still
-  still : (rest : List SurfaceItem) (after : Seen) → all ≡ take index all ++ rest → after ≡ now → IsTrue before.tells_files → IsLeft all (after.files out)
+  still : (rest : List SurfaceItem) (after : Seen) → all ≡ take index all ++ rest → after ≡ now → IsTrue before.tells_files → IsKept all (after.files out)
   still rest after split same t =
-      let P : Seen → Type 0 = λ seen. IsLeft all (seen.files out) in
+      let P : Seen → Type 0 = λ seen. IsKept all (seen.files out) in
       subst P (sym same) (between (midway rest split t))
 
 pub item_stops : (before now after : Seen) (out text : List ℕ) (items : List Item) (index : ℕ) (i : Item) (theory next : Standing) (writer later : Writer) (s : Stop)
@@ -100,7 +100,7 @@ item_stops before now after out text items index i theory next writer later stop
     let p = stops (subst T (sym h.told) t) h.sound (subst W (sym (h.target t)) (h.written t)) in
     let F : List ℕ → Type 0 = λ name. after.files name ≡ Some (content_of now name ++ take p.partly.n p.partly.next) in
     let V : List ℕ → Type 0 = λ name. IsWritten next.items next.kept later (content_of now name ++ p.partly.next) in
-    let whole = front_of next.items next.kept later (content_of now out ++ p.partly.next) p.all (subst V (h.target t) p.partly.whole) in
+    let whole = front_of next.items next.kept later (content_of now out ++ p.partly.next) p.all (subst V (h.target t) p.partly.whole) (λ e. absurd (never_empty _ _ (sym p.accepted.adds.notes ∙ e))) in
     let E : Env → Type 0 = λ e. IsFront (content_of now out ++ p.partly.next) e (known next).notes in
     let N : List Note → Type 0 = λ ns. IsFront (content_of now out ++ p.partly.next) (with_item (env theory) (item_view text i) p.accepted.reading) ns in
     inr (within (content_of now out) p.partly.n p.partly.next
@@ -129,15 +129,16 @@ end_stops before now after out text items index theory writer s h is stops t =
         inr (within (content_of now out) p.n p.next (midway before now out (items_view text items) index theory writer h [] split t)
         (left.end refl (subst D (h.target t) p.whole)) (subst F (h.target t) p.file))
 
-begun_left : (before after : Option (List ℕ)) (items : List SurfaceItem) → BeginsFile before after → (after ≡ before) ⊎ IsLeft items after
-begun_left before after items (inl e) = inl e
-begun_left before after items (inr h) = inr (begun h.0 h.1)
-
 -- the header isn't written
-pub begin_stops : (before after : Option (List ℕ)) (items : List SurfaceItem) (fault : DeskFault) → BeginsFile before after → IsChecked before after items (Err (stop_by fault))
-begin_stops before after items desk.Failed h = begun_left before after items h
-begin_stops before after items desk.Memory h = begun_left before after items h
+pub begin_stops : (before after : Option (List ℕ)) (items : List SurfaceItem) (fault : DeskFault) → BeginsFile before after fault → IsChecked before after items (Err (stop_by fault))
+begin_stops before after items desk.Failed (inl e) = inl e
+begin_stops before after items desk.Failed (inr h) = inr (begun h.0 h.1)
+begin_stops before after items desk.Memory (inl e) = inl e
+begin_stops before after items desk.Memory (inr e) = inr (empty e)
 
 -- nothing is written behind the header
-pub header_left : (before after : Option (List ℕ)) (items : List SurfaceItem) → after ≡ Some header → (after ≡ before) ⊎ IsLeft items after
-header_left before after items e = inr (begun 8 e)
+pub header_left : (before after : Option (List ℕ)) (items : List SurfaceItem) → after ≡ Some header → (after ≡ before) ⊎ IsKept items after
+header_left before after items e =
+    let P : List ℕ → Type 0 = λ bytes. IsMidway items items bytes [] [] in
+    inr (between (subst P (sym (ap (λ (o : Option (List ℕ)). unwrap_or o []) e))
+    (record { some = []; split = refl; accepted = none; front = record { records = []; spelled = refl; stand = tt; env_is = refl; notes_are = refl; none = λ e. refl } })))

@@ -24,11 +24,12 @@ use Rattle.book_top.specs.declared.status.Summary.{Summary}
 use Rattle.book_top.specs.declared.status.Status.{Status}
 use Rattle.book_top.specs.declared.status.Status.TheVariants as status
 use Rattle.book_top.specs.declared.status.RuleFault.{RuleFault}
+use Rattle.book_top.specs.declared.status.Side.TheVariants as Side
 use Rattle.book_top.specs.declared.status.WhyName.TheVariants as why
 use Rattle.book_top.specs.declared.status.LimitFault.TheVariants as limit
 use Rattle.book_top.specs.Verdict.{Verdict, Verdicts, TextRefused, TooHigh, RuleRefused}
 use Rattle.book_top.specs.Spells.{FirstRefused}
-use Rattle.book_top.specs.Left.{IsFront, IsLeft}
+use Rattle.book_top.specs.Left.{IsFront, IsKept, IsLeft}
 use Rattle.book_top.specs.Chunks.{IsCheckDone, LengthensPartly}
 use Rattle.book_top.specs.Judged.{IsAccepted}
 use Rattle.book_top.specs.Top.{AnswersParse}
@@ -89,7 +90,7 @@ abbrev pub IsChecked : (before after : Option (List ℕ)) → List SurfaceItem �
 IsChecked before after items (Ok summary) = IsCheckDone (unwrap_or after []) items summary
 IsChecked before after items (Err (stop.Item number at s)) = IsStopped (unwrap_or after []) items number at s
 IsChecked before after items (Err stop.Desk) = (after ≡ before) ⊎ IsLeft items after
-IsChecked before after items (Err stop.Memory) = (after ≡ before) ⊎ IsLeft items after
+IsChecked before after items (Err stop.Memory) = (after ≡ before) ⊎ IsKept items after
 
 abbrev pub IsWhyOf : Why → RuleFault → Type 0
 IsWhyOf reason.NoType f = f.why ≡ why.NoType
@@ -97,6 +98,7 @@ IsWhyOf (reason.NotSame found wanted left right under) f = f.why ≡ why.NotSame
 
 -- the refusal of an item by a rule, without its terms
 pub record IsRuleFault (number : ℕ) (at : Span) (failure : Failure) (f : RuleFault) : Type 0 where
+  pub side : f.side ≡ Side.Book
   pub item : f.item ≡ number
   pub place : f.at ≡ at
   pub rule : f.rule ≡ failure.rule

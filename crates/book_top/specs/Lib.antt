@@ -10,3 +10,4 @@ pub mod Built
 pub mod Judged
 pub mod Chunks
 pub mod Checked
+pub mod Said

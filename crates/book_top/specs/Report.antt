@@ -1,22 +1,88 @@
 -- What is said of an answer.
-use Rattle.std.specs.Prelude.{ℕ, List, [], ◌++◌, codes}
+use Rattle.std.specs.Prelude.{ℕ, zero, suc, List, [], ◌∷◌, ◌++◌, codes}
 use Rattle.std.specs.Fmt.{decimal}
+use Rattle.fb_base.specs.Place.{line_of, column_of}
+use Rattle.fb_base.specs.declared.places.Span.{Span}
+use Rattle.fb_parse.specs.ItemView.{at_span}
+use Rattle.ld_infer.specs.declared.failure.RuleName.{RuleName}
+use Rattle.ld_infer.specs.declared.failure.RuleName.TheVariants as rule
+use Rattle.ld_infer.specs.declared.failure.PathStep.{PathStep}
+use Rattle.ld_infer.specs.declared.failure.PathStep.TheVariants as step
 use Rattle.book_top.specs.declared.status.Status.{Status}
 use Rattle.book_top.specs.declared.status.Status.TheVariants as status
 use Rattle.book_top.specs.declared.status.Summary.{Summary}
+use Rattle.book_top.specs.declared.status.TextWhat.{TextWhat}
+use Rattle.book_top.specs.declared.status.TextWhat.TheVariants as what
+use Rattle.book_top.specs.declared.status.RuleFault.{RuleFault}
+use Rattle.book_top.specs.declared.status.LimitFault.{LimitFault}
+use Rattle.book_top.specs.declared.status.LimitFault.TheVariants as limit
 
 abbrev pub done_text : Summary → List ℕ
 done_text s = codes "done: " ++ decimal s.items ++ codes " items, " ++ decimal s.entries ++ codes " entries, " ++ decimal s.steps ++ codes " steps\n"
 
--- The report of a refusal is one word.
-abbrev pub report_of : Status → List ℕ
-report_of (status.Done s) = done_text s
-report_of (status.Text f) = codes "text\n"
-report_of status.Usage = codes "usage\n"
-report_of (status.Rule f) = codes "rule\n"
-report_of status.Desk = []
-report_of (status.Limit l) = codes "limit\n"
-report_of status.Memory = codes "memory\n"
+-- the line and the column of an offset
+abbrev pub place_text : (text : List ℕ) → (offset : ℕ) → List ℕ
+place_text text offset = decimal (line_of text offset) ++ codes ":" ++ decimal (column_of text offset) ++ codes ": "
+
+abbrev pub rule_name : RuleName → List ℕ
+rule_name rule.Weak = codes "weak"
+rule_name rule.Form = codes "form"
+rule_name rule.Appl = codes "appl"
+rule_name rule.Abst = codes "abst"
+rule_name rule.Def = codes "def"
+rule_name rule.DefPrim = codes "def-prim"
+rule_name rule.Inst = codes "inst"
+rule_name rule.InstPrim = codes "inst-prim"
+
+abbrev pub step_text : PathStep → List ℕ
+step_text step.Of = codes "type"
+step_text step.Body = codes "body"
+step_text step.Dom = codes "dom"
+step_text step.Ran = codes "ran"
+step_text step.Fun = codes "fun"
+step_text step.Arg = codes "arg"
+step_text (step.Nth n) = decimal n
+
+-- what stands before a step that has so many before it
+abbrev pub dot_text : ℕ → List ℕ
+dot_text zero = []
+dot_text (suc n) = codes "."
+
+abbrev pub steps_text : (before : ℕ) → List PathStep → List ℕ
+steps_text before [] = []
+steps_text before (s ∷ rest) = (dot_text before ++ step_text s) ++ steps_text (suc before) rest
+
+-- the steps with dots between them
+abbrev pub path_text : List PathStep → List ℕ
+path_text path = steps_text 0 path
+
+-- why a text has no reading, with the name at the fault where it is one
+abbrev pub what_text : (text : List ℕ) → Span → TextWhat → List ℕ
+what_text text at what.BadByte = codes "bad byte"
+what_text text at what.LongName = codes "long name"
+what_text text at what.Syntax = codes "syntax"
+what_text text at what.Unknown = codes "unknown name " ++ at_span text at
+what_text text at what.NameTaken = codes "name taken " ++ at_span text at
+what_text text at what.NotBuilt = codes "not built"
+
+abbrev pub rule_text : RuleFault → List ℕ
+rule_text f = codes "rule " ++ rule_name f.rule ++ codes " " ++ decimal f.premise ++ codes " at " ++ path_text f.path ++ codes "\n"
+
+abbrev pub limit_text : (text : List ℕ) → LimitFault → List ℕ
+limit_text text limit.BookBytes = codes "limit: book bytes\n"
+limit_text text (limit.Nesting at) = place_text text at ++ codes "limit: nesting\n"
+limit_text text (limit.Items at) = place_text text at ++ codes "limit: items\n"
+limit_text text (limit.Height at) = place_text text at ++ codes "limit: height\n"
+
+-- the report of an answer on the book with this text
+abbrev pub report_of : (text : List ℕ) → Status → List ℕ
+report_of text (status.Done s) = done_text s
+report_of text (status.Text f) = place_text text f.at.start ++ codes "text: " ++ what_text text f.at f.what ++ codes "\n"
+report_of text status.Usage = codes "usage: flagbook check BOOK OUT, verify DERIV, print BOOK NAME, term BOOK TEXT, gen N OUT, with --budget N\n"
+report_of text (status.Rule f) = place_text text f.at.start ++ rule_text f
+report_of text status.Desk = []
+report_of text (status.Limit l) = limit_text text l
+report_of text status.Memory = codes "memory\n"
 
 abbrev pub code_of : Status → ℕ
 code_of (status.Done s) = 0

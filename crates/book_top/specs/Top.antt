@@ -1,5 +1,5 @@
 -- What the top call answers, and what stands in the files then.
-use Rattle.std.specs.Prelude.{◌≡◌, ◌⊎◌, ◌<◌, ◌≤◌, ◌+◌, ℕ, ⊤, List, [], ◌++◌, length, take, Some}
+use Rattle.std.specs.Prelude.{◌≡◌, ◌≢◌, ◌⊎◌, ◌<◌, ◌≤◌, ◌+◌, ℕ, ⊤, List, [], ◌++◌, length, take, Option, Some}
 use Rattle.ld_terms.specs.Entry.{Env}
 use Rattle.ld_terms.specs.Known.{Note}
 use Rattle.fb_lex.specs.declared.tokens.LexFault.TheVariants.{BadByte, LongName}
@@ -16,6 +16,7 @@ use Rattle.book_top.specs.declared.status.TextFault.{TextFault}
 use Rattle.book_top.specs.declared.status.TextWhat.{TextWhat}
 use Rattle.book_top.specs.declared.status.TextWhat.TheVariants as what
 use Rattle.book_top.specs.declared.status.RuleFault.{RuleFault}
+use Rattle.book_top.specs.declared.status.Side.TheVariants as Side
 use Rattle.book_top.specs.declared.status.WhyName.TheVariants as why
 use Rattle.book_top.specs.declared.status.LimitFault.TheVariants as limit
 use Rattle.book_top.specs.Names.{fault_at}
@@ -23,7 +24,7 @@ use Rattle.book_top.specs.Verdict as verdict
 use Rattle.book_top.specs.Spells.{Spells, Accepts, FirstRefused}
 use Rattle.book_top.specs.Words.{IsCheck, IsNoCommand}
 use Rattle.book_top.specs.Report.{report_of}
-use Rattle.book_top.specs.Left.{Files, content, IsFront, IsLeft}
+use Rattle.book_top.specs.Left.{Files, content, IsFront, IsKept, IsLeft}
 
 abbrev pub book_limit : ℕ
 book_limit = 4_194_304
@@ -59,6 +60,7 @@ IsWhy (rule.NotSame found wanted left right under) f = f.why ≡ why.NotSame
 
 -- the premise that fails, of the item of this number, counted from 1
 pub record IsRule (i : SurfaceItem) (number : ℕ) (r : rule.Refusal) (f : RuleFault) : Type 0 where
+  pub side : f.side ≡ Side.Book
   pub item : f.item ≡ number
   pub at : f.at ≡ i.span
   pub rule : f.rule ≡ r.rule
@@ -110,9 +112,9 @@ pub record IsNoBook (before : Files) (book : List ℕ) (answer : Status) : Type 
   pub answers : AnswersParse fault answer
 
 -- What a check that stops midway leaves in its file: what was there, or, where the book is one, what was begun of its derivation.
-pub data Leaves (before after : Files) (book out : List ℕ) : Type 0 where
-  untouched : after out ≡ before out → Leaves before after book out
-  left : (text : List ℕ) (items : List SurfaceItem) → IsFetched before book text → IsBookText text items → IsLeft items (after out) → Leaves before after book out
+pub data Leaves (Begun : List SurfaceItem → Option (List ℕ) → Type 0) (before after : Files) (book out : List ℕ) : Type 0 where
+  untouched : after out ≡ before out → Leaves Begun before after book out
+  left : (text : List ℕ) (items : List SurfaceItem) → IsFetched before book text → IsBookText text items → Begun items (after out) → Leaves Begun before after book out
 
 -- What a check of the book answers, and what stands in the files then.
 pub data Checks (before after : Files) (book out : List ℕ) : Status → Type 0 where
@@ -121,8 +123,8 @@ pub data Checks (before after : Files) (book out : List ℕ) : Status → Type 0
   no_book : {answer : Status} → IsNoBook before book answer → after ≡ before → Checks before after book out answer
   item_refused : {answer : Status} → IsItemRefused before after book out answer → Checks before after book out answer
   -- a call on the desk failed, or memory ran out
-  desk : Leaves before after book out → Checks before after book out status.Desk
-  memory : Leaves before after book out → Checks before after book out status.Memory
+  desk : Leaves IsLeft before after book out → Checks before after book out status.Desk
+  memory : Leaves IsKept before after book out → Checks before after book out status.Memory
 
 -- What is answered, and what stands in the files then.
 pub data Outcome (before after : Files) (words : List (List ℕ)) : Status → Type 0 where
@@ -130,8 +132,13 @@ pub data Outcome (before after : Files) (words : List (List ℕ)) : Status → T
   -- The words ask for nothing that is known. The report may have failed.
   no_command : {answer : Status} → IsNoCommand words → AnswersNoCommand answer → after ≡ before → Outcome before after words answer
 
--- What was said: the report of the answer. A desk that failed may have said a front of a report, and without memory nothing is said.
-abbrev pub IsSaid : (before after : List ℕ) → Status → Type 0
-IsSaid before after status.Desk = (answer : Status) × (n : ℕ) × (after ≡ before ++ take n (report_of answer))
-IsSaid before after status.Memory = (after ≡ before ++ report_of status.Memory) ⊎ (after ≡ before)
-IsSaid before after answer = after ≡ before ++ report_of answer
+-- What was said: the report of the answer on the book with this text. A desk that failed may have said a front of the report of the
+-- answer that was given before, and without memory nothing is said.
+abbrev pub IsSaid : (text : List ℕ) → (given : Status) → (before after : List ℕ) → Status → Type 0
+IsSaid text given before after status.Desk = (n : ℕ) × (after ≡ before ++ take n (report_of text given))
+IsSaid text given before after status.Memory = (after ≡ before ++ report_of text status.Memory) ⊎ (after ≡ before)
+IsSaid text given before after answer = after ≡ before ++ report_of text answer
+
+-- The answer is the given one, or the given one couldn't be said.
+abbrev pub IsAnswerOf : (given answer : Status) → Type 0
+IsAnswerOf given answer = (answer ≡ given) ⊎ ((given ≢ status.Desk) × ((answer ≡ status.Desk) ⊎ (answer ≡ status.Memory)))

@@ -131,7 +131,7 @@ fn begin<D: Desk>(desk: &mut D, out: &str) -> Result<(), DeskFault>
     ensures started { OnOk result ((D.seen desk.new).started ≡ true) }
     ensures target { OnOk result (IsTrue (D.seen desk.old).tells_files → (D.seen desk.new).target ≡ out.now) }
     ensures header { OnOk result (IsTrue (D.seen desk.old).tells_files → (D.seen desk.new).files out.now ≡ Some header_bytes) }
-    ensures begun { OnErr result (IsTrue (D.seen desk.old).tells_files → BeginsFile ((D.seen desk.old).files out.now) ((D.seen desk.new).files out.now)) }
+    ensures begun { IfErr result (λ fault. IsTrue (D.seen desk.old).tells_files → BeginsFile ((D.seen desk.old).files out.now) ((D.seen desk.new).files out.now) fault) }
     ensures told { (D.seen desk.new).tells_files ≡ (D.seen desk.old).tells_files }
     ensures tells_said { (D.seen desk.new).tells_said ≡ (D.seen desk.old).tells_said }
     ensures said { (D.seen desk.new).said ≡ (D.seen desk.old).said }

@@ -1,34 +1,50 @@
 //! What is said of an answer.
-ghost use Rattle.std.specs.Prelude.{◌≡◌, IfOk};
-ghost use Rattle.book_top.specs.Report.{report_of, done_text};
+ghost use Rattle.std.specs.Prelude.{◌≡◌, ◌++◌, codes, IfOk, OnOk};
+ghost use Rattle.std.specs.Fmt.{decimal};
+ghost use Rattle.fb_parse.specs.ItemView.{at_span};
+ghost use Rattle.book_top.specs.Report as said;
 
-use crate::status::{Status, Summary};
-use fb_base::NoMemory;
+use crate::status::{LimitFault, RuleFault, Status, Summary, TextFault, TextWhat};
+use fb_base::{NoMemory, Span, place};
+use ld_infer::{Path, PathStep, RuleName};
 use std::alloc::Global;
 
-/// The report of an answer, empty where a call on the desk failed.
-pub fn report(alloc: Global, status: &Status) -> Result<Vec<u8>, NoMemory>
-    ensures { IfOk result (λ text. text.items ≡ report_of status.now) }
+const USAGE: &str =
+    "usage: flagbook check BOOK OUT, verify DERIV, print BOOK NAME, term BOOK TEXT, gen N OUT, with --budget N\n";
+
+/// The report of an answer on the book with this text, one line, or nothing where a call on the desk failed.
+///
+/// A place is a line and a column, both from 1, a column in characters.
+pub fn report(alloc: Global, text: &[u8], status: &Status) -> Result<Vec<u8>, NoMemory>
+    ensures { IfOk result (λ bytes. bytes.items ≡ said.report_of text.now status.now) }
 {
+    let mut out = Vec::new(alloc);
     match status {
-        Status::Done(summary) => done(alloc, summary),
-        Status::Text(_) => word(alloc, b"text\n"),
-        Status::Usage => word(alloc, b"usage\n"),
-        Status::Rule(_) => word(alloc, b"rule\n"),
-        Status::Desk => Ok(Vec::new(alloc)),
-        Status::Limit(_) => word(alloc, b"limit\n"),
-        Status::Memory => word(alloc, b"memory\n"),
+        Status::Done(summary) => push_done(alloc, summary, &mut out)?,
+        Status::Text(fault) => push_fault(alloc, text, fault, &mut out)?,
+        Status::Usage => push(USAGE, &mut out)?,
+        Status::Rule(fault) => push_rule(alloc, text, fault, &mut out)?,
+        Status::Desk => {}
+        Status::Limit(limit) => push_limit(alloc, text, *limit, &mut out)?,
+        Status::Memory => push("memory\n", &mut out)?,
     }
+    Ok(out)
 }
 
-fn word(alloc: Global, bytes: &[u8]) -> Result<Vec<u8>, NoMemory>
-    ensures { IfOk result (λ text. text.items ≡ bytes.now) }
+fn push(words: &str, out: &mut Vec<u8>) -> Result<(), NoMemory>
+    ensures { OnOk result (out.new.items ≡ out.old.items ++ words.now) }
 {
-    Vec::from_slice(alloc, bytes).map_err(|_| NoMemory)
+    push_bytes(words.as_bytes(), out)
 }
 
-fn done(alloc: Global, summary: &Summary) -> Result<Vec<u8>, NoMemory>
-    ensures { IfOk result (λ text. text.items ≡ done_text summary.now) }
+fn push_bytes(bytes: &[u8], out: &mut Vec<u8>) -> Result<(), NoMemory>
+    ensures { OnOk result (out.new.items ≡ out.old.items ++ bytes.now) }
+{
+    out.extend_from_slice(bytes).map_err(|_| NoMemory)
+}
+
+fn push_done(alloc: Global, summary: &Summary, out: &mut Vec<u8>) -> Result<(), NoMemory>
+    ensures { OnOk result (out.new.items ≡ out.old.items ++ said.done_text summary.now) }
 {
     let Summary {
         items,
@@ -36,7 +52,160 @@ fn done(alloc: Global, summary: &Summary) -> Result<Vec<u8>, NoMemory>
         steps,
     } = *summary;
     match format!(in alloc; "done: {items} items, {entries} entries, {steps} steps\n") {
-        Ok(text) => Ok(text.into_bytes()),
+        Ok(words) => push(&words, out),
         Err(_) => Err(NoMemory),
+    }
+}
+
+// The place of an offset of the text.
+fn push_place(alloc: Global, text: &[u8], offset: usize, out: &mut Vec<u8>) -> Result<(), NoMemory>
+    ensures { OnOk result (out.new.items ≡ out.old.items ++ said.place_text text.now offset) }
+{
+    let (line, column) = place(text, offset.min(text.len()));
+    match format!(in alloc; "{line}:{column}: ") {
+        Ok(words) => push(&words, out),
+        Err(_) => Err(NoMemory),
+    }
+}
+
+fn push_number(alloc: Global, n: u32, out: &mut Vec<u8>) -> Result<(), NoMemory>
+    ensures { OnOk result (out.new.items ≡ out.old.items ++ decimal n) }
+{
+    match format!(in alloc; "{n}") {
+        Ok(words) => push(&words, out),
+        Err(_) => Err(NoMemory),
+    }
+}
+
+fn push_fault(
+    alloc: Global,
+    text: &[u8],
+    fault: &TextFault,
+    out: &mut Vec<u8>,
+) -> Result<(), NoMemory>
+    ensures { OnOk result (out.new.items ≡ out.old.items ++ said.report_of text.now (Status.Text fault.now)) }
+{
+    push_place(alloc, text, fault.at.start, out)?;
+    push("text: ", out)?;
+    push_what(text, fault.at, fault.what, out)?;
+    push("\n", out)
+}
+
+fn push_what(text: &[u8], at: Span, what: TextWhat, out: &mut Vec<u8>) -> Result<(), NoMemory>
+    ensures { OnOk result (out.new.items ≡ out.old.items ++ said.what_text text.now at what) }
+{
+    match what {
+        TextWhat::BadByte => push("bad byte", out),
+        TextWhat::LongName => push("long name", out),
+        TextWhat::Syntax => push("syntax", out),
+        TextWhat::Unknown => {
+            push("unknown name ", out)?;
+            push_span(text, at, out)
+        }
+        TextWhat::NameTaken => {
+            push("name taken ", out)?;
+            push_span(text, at, out)
+        }
+        TextWhat::NotBuilt => push("not built", out),
+    }
+}
+
+// The bytes of the text at a span.
+fn push_span(text: &[u8], at: Span, out: &mut Vec<u8>) -> Result<(), NoMemory>
+    ensures { OnOk result (out.new.items ≡ out.old.items ++ at_span text.now at) }
+{
+    let end = at.end.min(text.len());
+    push_bytes(&text[at.start.min(end)..end], out)
+}
+
+fn push_rule(
+    alloc: Global,
+    text: &[u8],
+    fault: &RuleFault,
+    out: &mut Vec<u8>,
+) -> Result<(), NoMemory>
+    ensures { OnOk result (out.new.items ≡ out.old.items ++ said.place_text text.now fault.now.at.start ++ said.rule_text fault.now) }
+{
+    push_place(alloc, text, fault.at.start, out)?;
+    push("rule ", out)?;
+    push(rule_name(fault.rule), out)?;
+    push(" ", out)?;
+    push_number(alloc, fault.premise, out)?;
+    push(" at ", out)?;
+    push_path(alloc, &fault.path, out)?;
+    push("\n", out)
+}
+
+fn rule_name(rule: RuleName) -> &'static str
+    ensures { result.now ≡ said.rule_name rule }
+{
+    match rule {
+        RuleName::Weak => "weak",
+        RuleName::Form => "form",
+        RuleName::Appl => "appl",
+        RuleName::Abst => "abst",
+        RuleName::Def => "def",
+        RuleName::DefPrim => "def-prim",
+        RuleName::Inst => "inst",
+        RuleName::InstPrim => "inst-prim",
+    }
+}
+
+fn push_path(alloc: Global, path: &Path, out: &mut Vec<u8>) -> Result<(), NoMemory>
+    ensures { OnOk result (out.new.items ≡ out.old.items ++ said.path_text path.now) }
+{
+    for i in 0..path.len() {
+        push_dot(i, out)?;
+        push_step(alloc, path.step(i), out)?;
+    }
+    Ok(())
+}
+
+// The dot before a step that has so many before it.
+fn push_dot(before: usize, out: &mut Vec<u8>) -> Result<(), NoMemory>
+    ensures { OnOk result (out.new.items ≡ out.old.items ++ said.dot_text before) }
+{
+    if before == 0 {
+        return Ok(());
+    }
+    push(".", out)
+}
+
+fn push_step(alloc: Global, step: PathStep, out: &mut Vec<u8>) -> Result<(), NoMemory>
+    ensures { OnOk result (out.new.items ≡ out.old.items ++ said.step_text step) }
+{
+    match step {
+        PathStep::Of => push("type", out),
+        PathStep::Body => push("body", out),
+        PathStep::Dom => push("dom", out),
+        PathStep::Ran => push("ran", out),
+        PathStep::Fun => push("fun", out),
+        PathStep::Arg => push("arg", out),
+        PathStep::Nth(number) => push_number(alloc, number, out),
+    }
+}
+
+fn push_limit(
+    alloc: Global,
+    text: &[u8],
+    limit: LimitFault,
+    out: &mut Vec<u8>,
+) -> Result<(), NoMemory>
+    ensures { OnOk result (out.new.items ≡ out.old.items ++ said.limit_text text.now limit) }
+{
+    match limit {
+        LimitFault::BookBytes => push("limit: book bytes\n", out),
+        LimitFault::Nesting(at) => {
+            push_place(alloc, text, at, out)?;
+            push("limit: nesting\n", out)
+        }
+        LimitFault::Items(at) => {
+            push_place(alloc, text, at, out)?;
+            push("limit: items\n", out)
+        }
+        LimitFault::Height(at) => {
+            push_place(alloc, text, at, out)?;
+            push("limit: height\n", out)
+        }
     }
 }

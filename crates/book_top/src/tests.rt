@@ -73,36 +73,81 @@ fn refused_items(rt: HostRuntime) -> Result<(), Fail> {
     let header = &ONE_PRIMITIVE[..8];
     let first = &ONE_PRIMITIVE[..19];
     for (book, code, report, left) in [
-        ("P := prim : box", 3, "rule\n", header),
-        ("x := y : *", 1, "text\n", header),
-        ("f := fun x : * . x : *", 1, "text\n", header),
-        ("[A : *]", 1, "text\n", header),
-        ("| A := prim : *", 1, "text\n", header),
-        ("A := prim : *\nA := prim : *", 1, "text\n", first),
-        ("A := prim : *\nA := prim : box", 1, "text\n", first),
-        ("A := prim : *\nx := A : box", 3, "rule\n", first),
-        ("A := prim : *\nx := A A : *", 1, "text\n", first),
-        ("A := prim : *\nx := by intro A : *", 1, "text\n", first),
+        (
+            "P := prim : box",
+            3,
+            "1:1: rule def-prim 2 at type\n",
+            header,
+        ),
+        ("x := y : *", 1, "1:6: text: unknown name y\n", header),
+        (
+            "f := fun x : * . x : *",
+            1,
+            "1:6: text: not built\n",
+            header,
+        ),
+        ("[A : *]", 1, "1:1: text: not built\n", header),
+        ("| A := prim : *", 1, "1:3: text: not built\n", header),
+        (
+            "A := prim : *\nA := prim : *",
+            1,
+            "2:1: text: name taken A\n",
+            first,
+        ),
+        (
+            "A := prim : *\nA := prim : box",
+            1,
+            "2:1: text: name taken A\n",
+            first,
+        ),
+        (
+            "A := prim : *\nx := A : box",
+            3,
+            "2:1: rule def 2 at body\n",
+            first,
+        ),
+        (
+            "A := prim : *\nx := A A : *",
+            1,
+            "2:6: text: not built\n",
+            first,
+        ),
+        (
+            "A := prim : *\nx := by intro A : *",
+            1,
+            "2:1: text: not built\n",
+            first,
+        ),
     ] {
         let desk = check(&rt, rt.alloc(), book.as_bytes(), code, report)?;
         assert!(rt; desk.file("out") == Some(left), "{book}");
     }
     // A comparison of unequal types is not built.
     let book = "A := prim : *\na := prim : A\nd := A : *\nb := a : d";
-    let desk = check(&rt, rt.alloc(), book.as_bytes(), 1, "text\n")?;
+    let desk = check(
+        &rt,
+        rt.alloc(),
+        book.as_bytes(),
+        1,
+        "4:1: text: not built\n",
+    )?;
     assert!(rt; desk.file("out").is_some_and(|file| file.starts_with(first)));
     Ok(())
 }
 
 #[test]
 fn no_books(rt: HostRuntime) -> Result<(), Fail> {
-    for book in [
-        b"x := * :".as_slice(),
-        b"x := $ : *".as_slice(),
-        b"\xff".as_slice(),
-        b"x".as_slice(),
+    for (book, report) in [
+        (b"x := * :".as_slice(), "1:9: text: syntax\n"),
+        (b"x := $ : *".as_slice(), "1:6: text: bad byte\n"),
+        (b"\xff".as_slice(), "1:1: text: bad byte\n"),
+        (
+            b"# \xce\xb1\n\xce\xb1 := prim $".as_slice(),
+            "2:11: text: bad byte\n",
+        ),
+        (b"x".as_slice(), "1:2: text: syntax\n"),
     ] {
-        let desk = check(&rt, rt.alloc(), book, 1, "text\n")?;
+        let desk = check(&rt, rt.alloc(), book, 1, report)?;
         assert!(rt; desk.file("out") == Some(b"old".as_slice()));
     }
     Ok(())
@@ -199,7 +244,16 @@ fn limits(rt: HostRuntime) -> Result<(), Fail> {
         "done: 0 items, 0 entries, 0 steps\n",
     )?;
     book.push(b'a')?;
-    let desk = check(&rt, rt.alloc(), &book, 6, "limit\n")?;
+    let desk = check(&rt, rt.alloc(), &book, 6, "limit: book bytes\n")?;
+    assert!(rt; desk.file("out") == Some(b"old".as_slice()));
+
+    // Nested by 500 arrows, at the last name.
+    let mut nested = Vec::from_slice(rt.alloc(), b"A := prim : *\nB := ")?;
+    for _ in 0..500 {
+        nested.extend_from_slice(b"A -> ")?;
+    }
+    nested.extend_from_slice(b"A : *")?;
+    let desk = check(&rt, rt.alloc(), &nested, 6, "2:2506: limit: nesting\n")?;
     assert!(rt; desk.file("out") == Some(b"old".as_slice()));
     Ok(())
 }
@@ -208,7 +262,7 @@ fn limits(rt: HostRuntime) -> Result<(), Fail> {
 fn unknown(rt: &impl Abort, alloc: Global, words: &[&str]) -> Result<(), Fail> {
     let mut desk = desk_with(alloc, b"A := prim : *", &[])?;
     assert_eq!(rt; run(alloc, words, &mut desk).code(), 2);
-    assert_eq!(rt; desk.said(), b"usage\n".as_slice());
+    assert!(rt; desk.said().starts_with(b"usage: flagbook check BOOK OUT, "));
     assert!(rt; desk.file("out") == Some(b"old".as_slice()));
     Ok(())
 }

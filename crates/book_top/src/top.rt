@@ -3,7 +3,8 @@ ghost use Rattle.std.specs.Prelude.{◌≡◌, ◌≢◌, ◌⊎◌, ◌≤◌, 
 ghost use Rattle.fb_base.specs.Desk.{Rose, OthersStay};
 ghost use Rattle.book_top.specs.Words.{texts, IsCheck, IsNoCommand};
 ghost use Rattle.book_top.specs.Desk.{OnlySays};
-ghost use Rattle.book_top.specs.Top.{IsFetched, AnswersNoCommand, Checks, Outcome, IsSaid};
+ghost use Rattle.book_top.specs.Top.{IsFetched, AnswersNoCommand, Checks, Outcome, IsSaid, IsAnswerOf};
+ghost use Rattle.book_top.specs.Said.{HasNoPlace, SaysOf};
 ghost use Rattle.book_top.specs.Checked.{AnswersFault, AnswersStop, IsRuleFault};
 
 use crate::check::{Stop, check_items};
@@ -31,25 +32,28 @@ pub fn run<D: Desk>(alloc: Global, words: &[&str], desk: &mut D) -> Status
     ensures no_command { IsNoCommand (texts words.now) → AnswersNoCommand result }
     ensures only_says { IsNoCommand (texts words.now) → OnlySays (D.seen desk.old) (D.seen desk.new) }
     ensures others { (book out : List ℕ) → IsCheck (texts words.now) book out → IsTrue (D.seen desk.old).tells_files → OthersStay (D.seen desk.old) (D.seen desk.new) out }
-    ensures said { IsTrue (D.seen desk.old).tells_said → IsSaid (D.seen desk.old).said (D.seen desk.new).said result }
+    ensures said { IsTrue (D.seen desk.old).tells_said → SaysOf (D.seen desk.old) (D.seen desk.new) (texts words.now) result }
     ensures desk { result ≡ Status.Desk → Rose (D.seen desk.old).faults (D.seen desk.new).faults }
     ensures absent { IsTrue (D.seen desk.old).tells_files → IsTrue (D.seen desk.old).sound → result ≡ Status.Desk
         → (book : List ℕ) × (out : List ℕ) × IsCheck (texts words.now) book out × ((D.seen desk.old).files book ≡ None) }
 {
     match command(words) {
-        Some(asked) => {
-            let status = check(alloc, asked.book, asked.out, desk);
-            say(alloc, desk, status)
-        }
-        None => say(alloc, desk, Status::Usage),
+        Some(asked) => match fetch(alloc, desk, asked.book) {
+            Ok(text) => {
+                let status = check(alloc, &text, asked.out, desk);
+                say(alloc, desk, &text, status)
+            }
+            Err(status) => say(alloc, desk, &[], status),
+        },
+        None => say(alloc, desk, &[], Status::Usage),
     }
 }
 
-// Says the report of an answer; where that fails, the answer is another.
-fn say<D: Desk>(alloc: Global, desk: &mut D, status: Status) -> Status
-    ensures same { (result ≡ status) ⊎ (result ≡ Status.Desk) ⊎ (result ≡ Status.Memory) }
+// Says the report of an answer on the book with this text; where that fails, the answer is another.
+fn say<D: Desk>(alloc: Global, desk: &mut D, text: &[u8], status: Status) -> Status
+    ensures same { IsAnswerOf status result }
     ensures only { OnlySays (D.seen desk.old) (D.seen desk.new) }
-    ensures said { IsTrue (D.seen desk.old).tells_said → IsSaid (D.seen desk.old).said (D.seen desk.new).said result }
+    ensures said { IsTrue (D.seen desk.old).tells_said → IsSaid text.now status (D.seen desk.old).said (D.seen desk.new).said result }
     ensures never_falls { (D.seen desk.old).faults ≤ (D.seen desk.new).faults }
     ensures desk { result ≡ Status.Desk → (status ≡ Status.Desk) ⊎ Rose (D.seen desk.old).faults (D.seen desk.new).faults }
     ensures sound { result ≡ Status.Desk → IsTrue (D.seen desk.old).tells_files → IsTrue (D.seen desk.old).sound → status ≡ Status.Desk }
@@ -57,19 +61,21 @@ fn say<D: Desk>(alloc: Global, desk: &mut D, status: Status) -> Status
     if let Status::Desk = status {
         return status;
     }
-    let Ok(text) = report(alloc, &status) else {
+    let Ok(words) = report(alloc, text, &status) else {
         return Status::Memory;
     };
-    match desk.say(&text) {
+    match desk.say(&words) {
         Ok(()) => status,
         Err(DeskFault::Failed) => Status::Desk,
         Err(DeskFault::Memory) => Status::Memory,
     }
 }
 
-// The check of a book.
-fn check<D: Desk>(alloc: Global, book: &str, out: &str, desk: &mut D) -> Status
-    ensures checks { IsTrue (D.seen desk.old).tells_files → Checks (D.seen desk.old).files (D.seen desk.new).files book.now out.now result }
+// The check of a book with this text.
+fn check<D: Desk>(alloc: Global, text: &[u8], out: &str, desk: &mut D) -> Status
+    requires short { length text.now ≤ 4194304 }
+    ensures checks { IsTrue (D.seen desk.old).tells_files → (book : List ℕ) → IsFetched (D.seen desk.old).files book text.now
+        → Checks (D.seen desk.old).files (D.seen desk.new).files book out.now result }
     ensures no_usage { result ≡ Status.Usage → ⊥ }
     ensures others { IsTrue (D.seen desk.old).tells_files → OthersStay (D.seen desk.old) (D.seen desk.new) out.now }
     ensures said { (D.seen desk.new).said ≡ (D.seen desk.old).said }
@@ -78,18 +84,14 @@ fn check<D: Desk>(alloc: Global, book: &str, out: &str, desk: &mut D) -> Status
     ensures never_falls { (D.seen desk.old).faults ≤ (D.seen desk.new).faults }
     ensures sound_stays { (D.seen desk.new).sound ≡ (D.seen desk.old).sound }
     ensures desk { result ≡ Status.Desk → Rose (D.seen desk.old).faults (D.seen desk.new).faults }
-    ensures absent { result ≡ Status.Desk → IsTrue (D.seen desk.old).tells_files → IsTrue (D.seen desk.old).sound → (D.seen desk.old).files book.now ≡ None }
+    ensures never { result ≡ Status.Desk → IsTrue (D.seen desk.old).tells_files → IsTrue (D.seen desk.old).sound → ⊥ }
 {
-    let text = match fetch(alloc, desk, book) {
-        Ok(text) => text,
-        Err(status) => return status,
-    };
     let arena = Bump::new(alloc);
-    let parsed = match parse_book(&arena, &text) {
+    let parsed = match parse_book(&arena, text) {
         Ok(parsed) => parsed,
         Err(fault) => return parse_answer(fault),
     };
-    match check_items(alloc, desk, out, &text, parsed.items) {
+    match check_items(alloc, desk, out, text, parsed.items) {
         Ok(summary) => Status::Done(summary),
         Err(stop) => stop_answer(stop),
     }
@@ -102,6 +104,7 @@ fn fetch<D: Desk>(alloc: Global, desk: &mut D, book: &str) -> Result<Vec<u8>, St
     ensures same { D.seen desk.new ≡ record (D.seen desk.old) { faults = (D.seen desk.new).faults } }
     ensures never_falls { (D.seen desk.old).faults ≤ (D.seen desk.new).faults }
     ensures desk { IsErrOf result Status.Desk → Rose (D.seen desk.old).faults (D.seen desk.new).faults }
+    ensures placeless { (status : Status) → IsErrOf result status → HasNoPlace status }
     ensures stopped { (status : Status) → IsErrOf result status → IsTrue (D.seen desk.old).tells_files → (out : List ℕ)
         → Checks (D.seen desk.old).files (D.seen desk.new).files book.now out status }
     ensures absent { IsErrOf result Status.Desk → IsTrue (D.seen desk.old).tells_files → IsTrue (D.seen desk.old).sound → (D.seen desk.old).files book.now ≡ None }

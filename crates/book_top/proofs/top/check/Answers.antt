@@ -1,37 +1,24 @@
-use Rattle.std.proofs.Common.{sym, ap, subst, arith, IsTrue, Ok, Err}
-use Rattle.fb_base.specs.Desk.{Seen}
-use Rattle.fb_parse.specs.ItemView.{items_view}
-use Rattle.book_top.specs.Checked.{IsChecked}
+use Rattle.std.proofs.Common.{refl, arith}
 use Rattle.book_top.proofs.Runs.{names_lie, parse_checks, done_checks, stop_checks}
 use Rattle.book_top.proofs.Checks.{length_view}
 use Rattle.book_top.proofs.top.check.Goals as goal
 
 pub check_items-requires-clause-names : goal.check_items-requires-clause-names
-check_items-requires-clause-names g c =
-    names_lie c.in-Ok.text.items c.deref.result.now c.deref-2.result.now c.in-Ok-parse_book.parsed.items.now c.deref.ensures.value c.deref-2.ensures.value c.in-Ok-parse_book.ensures.stands
+check_items-requires-clause-names g c = names_lie c.args.text.now c.args.text.now c.args.text.now c.in-Ok.parsed.items.now refl refl c.in-Ok.ensures.stands
 
 pub check_items-requires-clause-few : goal.check_items-requires-clause-few
-check_items-requires-clause-few g c = omega (arith, c.in-Ok-parse_book.ensures.exact.few, length_view c.deref.result.now c.in-Ok-parse_book.parsed.items.now)
+check_items-requires-clause-few g c = omega (arith, c.in-Ok.ensures.exact.few, length_view c.args.text.now c.in-Ok.parsed.items.now)
 
-pub returns-in-Err-parse_book-clause-checks : goal.returns-in-Err-parse_book-clause-checks
-returns-in-Err-parse_book-clause-checks g c = λ told.
-    parse_checks _ _ _ _ c.in-Ok.text.items c.deref.result.now c.in-Err-parse_book.fault _ (ap (λ (s : Seen). s.files) c.fetch.ensures.same) c.deref.ensures.value
-    (c.in-Ok.ensures.bytes told) c.in-Err-parse_book.ensures.exact c.parse_answer.ensures
+pub returns-in-Err-clause-checks : goal.returns-in-Err-clause-checks
+returns-in-Err-clause-checks g c = λ told book fetched.
+    parse_checks _ _ _ _ c.args.text.now c.args.text.now c.in-Err.fault _ refl refl fetched c.in-Err.ensures.exact c.parse_answer.ensures
 
 pub returns-in-Ok-check_items-clause-checks : goal.returns-in-Ok-check_items-clause-checks
-returns-in-Ok-check_items-clause-checks g c = λ told.
-    let T : Seen → Type 0 = λ s. IsTrue s.tells_files in
-    let I : Seen → Type 0 = λ s. IsChecked (s.files c.args.out.now) ((g.D.Desk.seen c.check_items.new.desk).files c.args.out.now)
-    (items_view c.deref-2.result.now c.in-Ok-parse_book.parsed.items.now) (Ok c.in-Ok-check_items.summary) in
-    done_checks _ _ _ _ c.in-Ok.text.items c.deref.result.now c.deref-2.result.now c.in-Ok-parse_book.parsed.items.now c.deref.ensures.value c.deref-2.ensures.value
-    (c.in-Ok.ensures.bytes told) c.in-Ok-parse_book.ensures.exact c.in-Ok-check_items.summary
-    (subst I c.fetch.ensures.same (c.in-Ok-check_items.ensures.answer (subst T (sym c.fetch.ensures.same) told)))
+returns-in-Ok-check_items-clause-checks g c = λ told book fetched.
+    done_checks _ _ _ _ c.args.text.now c.args.text.now c.args.text.now c.in-Ok.parsed.items.now refl refl fetched c.in-Ok.ensures.exact c.in-Ok-check_items.summary
+    (c.in-Ok-check_items.ensures.answer told)
 
 pub returns-clause-checks : goal.returns-clause-checks
-returns-clause-checks g c = λ told.
-    let T : Seen → Type 0 = λ s. IsTrue s.tells_files in
-    let I : Seen → Type 0 = λ s. IsChecked (s.files c.args.out.now) ((g.D.Desk.seen c.check_items.new.desk).files c.args.out.now)
-    (items_view c.deref-2.result.now c.in-Ok-parse_book.parsed.items.now) (Err c.in-Err-check_items.stop) in
-    stop_checks _ _ _ _ c.in-Ok.text.items c.deref.result.now c.deref-2.result.now c.in-Ok-parse_book.parsed.items.now c.deref.ensures.value c.deref-2.ensures.value
-    (c.in-Ok.ensures.bytes told) c.in-Ok-parse_book.ensures.exact c.in-Err-check_items.stop _
-    (subst I c.fetch.ensures.same (c.in-Err-check_items.ensures.answer (subst T (sym c.fetch.ensures.same) told))) c.stop_answer.ensures
+returns-clause-checks g c = λ told book fetched.
+    stop_checks _ _ _ _ c.args.text.now c.args.text.now c.args.text.now c.in-Ok.parsed.items.now refl refl fetched c.in-Ok.ensures.exact c.in-Err-check_items.stop _
+    (c.in-Err-check_items.ensures.answer told) c.stop_answer.ensures
