@@ -6,6 +6,7 @@ use ld_infer::{Path, RuleName};
 /// The text in which a fault lies.
 #[derive(Clone, Copy, Debug, PartialEq, Eq)]
 pub enum Side {
+    /// The book.
     Book,
 }
 
@@ -21,8 +22,11 @@ pub struct Summary {
 /// Why a text has no reading.
 #[derive(Clone, Copy, Debug, PartialEq, Eq)]
 pub enum TextWhat {
+    /// No token begins with the byte, or a character isn't UTF-8.
     BadByte,
+    /// A name has more than 255 bytes.
     LongName,
+    /// A token with which the tokens before it begin no book.
     Syntax,
     /// No entry has the name.
     Unknown,
@@ -43,7 +47,9 @@ pub struct TextFault {
 /// Why a premise fails.
 #[derive(Clone, Copy, Debug, PartialEq, Eq)]
 pub enum WhyName {
+    /// The part is `box`, which has no type.
     NoType,
+    /// The part has another type than the one that is wanted.
     NotSame,
 }
 
@@ -76,12 +82,19 @@ pub enum LimitFault {
 /// The answer of a run.
 #[derive(Debug, Drop)]
 pub enum Status {
+    /// The book is accepted, and its derivation written.
     Done(Summary),
+    /// The book has no reading: its text is none, or a name of its first refused item can't be looked up.
     Text(TextFault),
+    /// The words ask for nothing that is known.
     Usage,
+    /// A rule refuses the first item that is refused.
     Rule(RuleFault),
+    /// A file could not be read or written, or the report not said.
     Desk,
+    /// The book passes a limit.
     Limit(LimitFault),
+    /// Memory ran out.
     Memory,
 }
 

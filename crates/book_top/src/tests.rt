@@ -186,50 +186,45 @@ fn places_of_refusals(rt: HostRuntime) -> Result<(), Fail> {
     Ok(())
 }
 
-#[test]
-fn premises_that_fail(rt: HostRuntime) -> Result<(), Fail> {
-    for (book, item, rule, premise, step, why) in [
-        (
-            "P := prim : box",
-            1,
-            RuleName::DefPrim,
-            2,
-            PathStep::Of,
-            WhyName::NoType,
-        ),
-        (
-            "P := box : *",
-            1,
-            RuleName::Def,
-            2,
-            PathStep::Body,
-            WhyName::NoType,
-        ),
-        (
-            "A := prim : *\nx := A : box",
-            2,
-            RuleName::Def,
-            2,
-            PathStep::Body,
-            WhyName::NotSame,
-        ),
-    ] {
-        match answer(rt.alloc(), book)? {
-            Status::Rule(fault) => {
-                assert_eq!(rt;
-                    (fault.item, fault.rule, fault.premise, fault.why),
-                    (item, rule, premise, why),
-                    "{book}"
-                );
-                assert!(rt;
-                    fault.path.len() > 0 && fault.path.step(0) == step,
-                    "{book}"
-                );
-            }
-            status => assert!(rt; false, "{book}: {status:?}"),
+// Compares the item, the rule, the premise and the reason of the refusal of a book, and the first step of the path.
+fn compare_refusal(
+    rt: &impl Abort,
+    alloc: Global,
+    book: &str,
+    wanted: (u64, RuleName, u32, WhyName),
+    step: PathStep,
+) -> Result<(), Fail> {
+    match answer(alloc, book)? {
+        Status::Rule(fault) => {
+            assert_eq!(rt;
+                (fault.item, fault.rule, fault.premise, fault.why),
+                wanted,
+                "{book}"
+            );
+            assert!(rt;
+                fault.path.len() > 0 && fault.path.step(0) == step,
+                "{book}"
+            );
         }
+        status => assert!(rt; false, "{book}: {status:?}"),
     }
     Ok(())
+}
+
+#[test]
+fn premises_that_fail(rt: HostRuntime) -> Result<(), Fail> {
+    let no_type = (1, RuleName::DefPrim, 2, WhyName::NoType);
+    compare_refusal(&rt, rt.alloc(), "P := prim : box", no_type, PathStep::Of)?;
+    let no_type = (1, RuleName::Def, 2, WhyName::NoType);
+    compare_refusal(&rt, rt.alloc(), "P := box : *", no_type, PathStep::Body)?;
+    let not_same = (2, RuleName::Def, 2, WhyName::NotSame);
+    compare_refusal(
+        &rt,
+        rt.alloc(),
+        "A := prim : *\nx := A : box",
+        not_same,
+        PathStep::Body,
+    )
 }
 
 #[test]
