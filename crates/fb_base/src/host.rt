@@ -1,6 +1,6 @@
 //! The desk over the files and the standard output of a runtime: the edge of what is proved.
 ghost use Rattle.std.specs.Prelude.{◌≡◌, ◌≤◌, true, length, IfOk, IsErrOf};
-ghost use Rattle.fb_base.specs.Desk.{Fetches, Starts, Appends, Says};
+ghost use Rattle.fb_base.specs.Desk.{Starts, Appends, Says};
 
 use crate::{Desk, DeskFault};
 use std::alloc::Global;
