@@ -18,6 +18,7 @@ pub struct Entry {
     pub of: TermId,
 }
 
+/// Why no entry is appended.
 #[derive(Debug, Drop, Error, PartialEq, Eq)]
 pub enum EnvFault {
     #[error("the name is taken")]
@@ -26,6 +27,8 @@ pub enum EnvFault {
     Memory,
 }
 
+/// Entries under their names, numbered from 0 in the order in which they were appended. A name is 1 to 255 bytes in a
+/// book; here it may be any bytes.
 #[derive(Debug, Drop)]
 pub struct Env {
     entries: IndexMap<Vec<u8>, Entry>,
@@ -80,6 +83,7 @@ impl Env {
         Some(place as u32)
     }
 
+    /// The entry of a number.
     pub fn entry(&self, k: u32) -> &Entry
         requires { k < length self.now }
         ensures { slice_get (entries_of self.now) k ≡ Some result.now }
@@ -87,6 +91,7 @@ impl Env {
         &self.entries[k as usize]
     }
 
+    /// The name of the entry of a number.
     pub fn name(&self, k: u32) -> &[u8]
         requires { k < length self.now }
         ensures { slice_get (names_of self.now) k ≡ Some result.now }

@@ -9,3 +9,5 @@ pub mod Bank
 pub mod Rule
 pub mod Known
 pub mod Record
+pub mod Named
+pub mod Tests

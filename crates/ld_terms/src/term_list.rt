@@ -27,6 +27,7 @@ impl Terms {
         Terms { terms: items }
     }
 
+    /// The terms, in their order.
     pub fn as_slice(&self) -> &[TermId]
         ensures { result.now ≡ self.now }
     {
