@@ -1,5 +1,5 @@
 -- Where tokens lie, and what names are, from the definition of the next token alone.
-use Rattle.std.proofs.Common.{◌≡◌, ℕ, suc, ◌+◌, ◌-◌, ◌<◌, ◌≤◌, Bool, true, false, if◌then◌else◌, ◌==◌, List, [], ◌∷◌, ◌++◌, length, take, drop, Option, Some, None, Result, Ok, refl, ap, ◌∙◌, sym, subst, arith, length-append}
+use Rattle.std.proofs.Common.{◌≡◌, ℕ, ◌+◌, ◌-◌, ◌<◌, ◌≤◌, Bool, true, false, if◌then◌else◌, ◌==◌, List, length, take, Option, Some, None, Ok, refl, ap, ◌∙◌, sym, arith, length-append}
 use Rattle.std.proofs.lemmas.Bool.{false≢true}
 use Rattle.std.proofs.Common.{length-drop}
 use Rattle.std.specs.Char.{encode_utf8}
@@ -8,8 +8,8 @@ use Rattle.std.proofs.lemmas.Str.{length-encode, len_utf8_bounds}
 use Rattle.fb_lex.specs.declared.tokens.Kind.{Kind}
 use Rattle.fb_lex.specs.declared.tokens.Kind.TheVariants as k
 use Rattle.fb_lex.specs.declared.tokens.Token.{Token}
-use Rattle.fb_lex.specs.Tokens.{BeginsWithCharacter, Continued, sign_of, line_length, Skips, Front, IsSuffix, IsNext, between, behind, end_of, is_name, is_end}
-use Rattle.fb_lex.specs.Placed.{IsPlaced}
+use Rattle.fb_lex.specs.Tokens.{BeginsWithCharacter, Continued, sign_of, line_length, Skips, Front, IsSuffix, IsNext, behind, end_of, is_name, is_end}
+use Rattle.fb_lex.proofs.Placed.{IsPlaced}
 use Rattle.fb_lex.proofs.Characters.{word_utf8}
 use Rattle.fb_lex.proofs.Fronts.{suffix_same, suffix_cons, suffix_more, suffix_drop, at_place}
 

@@ -1,0 +1,22 @@
+-- What a text is as a list of tokens is determined by the text.
+use Rattle.std.specs.Prelude.{◌≡◌, ℕ, List, Option}
+use Rattle.fb_lex.specs.declared.tokens.Token.{Token}
+use Rattle.fb_lex.specs.declared.tokens.LexFault.{LexFault}
+use Rattle.fb_lex.specs.Tokens.{IsNext, IsFault}
+use Rattle.fb_lex.specs.TokenList.{Lexeme, Ending, Tokens}
+
+-- Behind a token, or at the beginning, one token at most is next.
+abbrev pub OneNextToken : Type 0
+OneNextToken = (text : List ℕ) (prev : Option Token) (t u : Token) → IsNext text prev t → IsNext text prev u → t ≡ u
+
+-- One fault at most is in its place.
+abbrev pub OneFault : Type 0
+OneFault = (text : List ℕ) (prev : Option Token) (f g : LexFault) → IsFault text prev f → IsFault text prev g → f ≡ g
+
+-- Where a token is next, no fault is in its place.
+abbrev pub NotBoth : Type 0
+NotBoth = (text : List ℕ) (prev : Option Token) (t : Token) (f : LexFault) → IsNext text prev t → IsFault text prev f → ⊥
+
+-- A text has at most one list of tokens, and one ending.
+abbrev pub OneTokenList : Type 0
+OneTokenList = (text : List ℕ) (ts us : List Lexeme) (e f : Ending) → Tokens text ts e → Tokens text us f → (ts ≡ us) × (e ≡ f)
