@@ -12,7 +12,8 @@ use Rattle.fb_parse.specs.Items as g
 use Rattle.fb_parse.specs.Items.{SurfaceArg, SurfaceBody, SurfaceKind, SurfaceItem, IsArg, MoreArgs, IsArgs, IsFilling, IsWay, IsBody, IsEntry, IsItem}
 use Rattle.fb_parse.specs.Reading.{Begins, Read, Fails}
 use Rattle.fb_parse.specs.Parts.{Is, IsSign, IsWord, Then, NextOrFault, anywhere, begins_term, behind_term, behind_terms, TermIs, SomeTerm}
-use Rattle.fb_parse.specs.ItemParts.{ArgIs, SomeArg, MoreArgsAre, SomeMoreArgs, ArgsAre, SomeArgs, FillingIs, SomeFilling, IsWordAt}
+use Rattle.fb_parse.specs.ItemParts.{ArgIs, SomeArg, ArgsAre, SomeArgs, FillingIs, SomeFilling, IsWordAt}
+use Rattle.fb_parse.proofs.MoreParts.{MoreArgsAre, SomeMoreArgs}
 use Rattle.fb_parse.proofs.Calculus.{Part, Stop, Follows, Names, Back, then_read, then_fails, then_fails_first, seen_as, fails_as, fault_behind, nothing_read, begins_first, lexeme_kind, lexeme_name, seen_sign, seen_name}
 use Rattle.fb_parse.proofs.Single.{begins_sign, tails, heads}
 use Rattle.fb_parse.proofs.Shapes.{first_is, terms_to_term, term_first}
@@ -32,9 +33,6 @@ pub word_seen : (text : List ℕ) (t : Token) {w : List ℕ} {s e : ℕ} → see
 word_seen text t {w} {s} {e} h =
     let named = lexeme_name text t.kind t.span.start t.span.end w s e h in
     record { named = named; bytes = name_bytes (sym (seen_name text t named) ∙ h) }
-
-pub begins_word : (w : List ℕ) (l : ℕ) → Begins (IsWord w l) []
-begins_word w l = record { more = name w l l ∷ []; whole = λ rest. (l, l, refl) }
 
 pub word_read : (text : List ℕ) (t : Token) (w : List ℕ) → IsWordAt text t w → (r : Result Token ParseFault) → NextOrFault text t r →
     MatchResult r (Read text (Is (seen text t)) (IsWord w) anywhere t) (Fails text (IsWord w) anywhere t)

@@ -266,9 +266,6 @@ body_first : {l : ℕ} {ts r : List Lexeme} {b : SurfaceBody} → IsBody l ts b 
 body_first (IsBody.plain t) = term_body_first _ (term_first t)
 body_first (IsBody.by w) = refl
 
-body_done : (l : ℕ) → Begins (SomeBody l) []
-body_done l = record { more = sign k.Star l l ∷ []; whole = λ rest. (_, IsBody.plain (star_term 1 l rest)) }
-
 -- a colon and a term
 abbrev Typed : Part
 Typed = Then (IsSign k.Colon) (SomeTerm 1)

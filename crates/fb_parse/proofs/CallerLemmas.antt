@@ -27,4 +27,4 @@ inst_stands text s x all h =
 
 -- a term is never refused for its items
 pub never_many : {text : List ℕ} {at : ℕ} → Refuses text BeginsTerm (ManyItems at) → ⊥
-never_many (Refuses.many_items s b n) = let h = b 0 in n 0 (record { more = h.more; tree = h.tree; parses = h.parses })
+never_many (Refuses.many_items s i b n) = let h = b 0 in n 0 (record { more = h.more; tree = h.tree; parses = h.parses })

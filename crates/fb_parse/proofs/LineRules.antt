@@ -63,7 +63,7 @@ pass_fail into back e n LinesFail.memory = LinesFail.memory
 pass_fail {text} {t} into back e n (LinesFail.lex r i j s) = LinesFail.lex (Reads.next e n r) i j (λ l. pass_begins text t into (s l))
 pass_fail {text} {t} into back e n (LinesFail.syntax r s o) = LinesFail.syntax (Reads.next e n r) (λ l. pass_begins text t into (s l)) (λ any l. pass_none text t _ back (o any l))
 pass_fail {text} {t} into back e n (LinesFail.deep r s o) = LinesFail.deep (Reads.next e n r) (pass_begins text t into s) (λ any. pass_none text t _ back (o any))
-pass_fail {text} {t} into back e n (LinesFail.many_items r s o) = LinesFail.many_items (Reads.next e n r) (λ l. pass_begins text t into (s l)) (λ l. pass_none text t _ back (o l))
+pass_fail {text} {t} into back e n (LinesFail.many_items r i s o) = LinesFail.many_items (Reads.next e n r) (λ l. pass_begins text t into (i l)) (λ l. pass_begins text t into (s l)) (λ l. pass_none text t _ back (o l))
 
 -- no token comes behind one that is passed over
 pub pass_fault : {text : List ℕ} {t : Token} {b c m : ℕ} (f : ParseFault) → Passes text t b c → is_end t.kind ≡ false → NextOrFault text t (Err f) → LinesFail text b m t f
@@ -74,7 +74,7 @@ pass_fault _ into e i = absurd i
 bar_from : {l b s e : ℕ} {ts : List Lexeme} {is : List SurfaceItem} (x : Lexeme) → x ≡ sign k.Bar s e → IsLines l (b + 1) ts is [] → IsLines l b (x ∷ ts) is []
 bar_from {l} {b} {s} {e} {ts} {is} x h p = subst (λ v. IsLines l b (v ∷ ts) is []) (sym h) (IsLines.bar p)
 
-item_not : {l b : ℕ} {ts r : List Lexeme} {i : SurfaceItem} → IsItem l b ts i r → first_is begins_item ts ≡ true
+pub item_not : {l b : ℕ} {ts r : List Lexeme} {i : SurfaceItem} → IsItem l b ts i r → first_is begins_item ts ≡ true
 item_not (IsItem.flag t) = refl
 item_not (IsItem.entry t) = refl
 
@@ -114,7 +114,7 @@ record ItemFirst (l b : ℕ) (ts : List Lexeme) (is : List SurfaceItem) (r : Lis
   lines : IsLines l b rest others r
   all : is ≡ first ∷ others
 
-ends_behind : (kind : Kind) → ends_line kind ≡ true → ends_term kind ≡ true
+pub ends_behind : (kind : Kind) → ends_line kind ≡ true → ends_term kind ≡ true
 ends_behind k.Newline h = refl
 ends_behind k.End h = refl
 ends_behind _ h = absurd (false≢true h)
@@ -240,7 +240,7 @@ item_fail begins q r LinesFail.memory = LinesFail.memory
 item_fail begins q r (LinesFail.lex s e j o) = LinesFail.lex (reads_append r.reads s) e j (λ l. begins_with q r s (o l))
 item_fail begins q r (LinesFail.syntax s o n) = LinesFail.syntax (reads_append r.reads s) (λ l. syntax_begins q r s (o l)) (λ any l. none_any _ (λ a. none_with begins r s (n a l)) any)
 item_fail begins q r (LinesFail.deep s o n) = LinesFail.deep (reads_append r.reads s) (begins_with q r s o) (λ any. none_any _ (λ a. none_with begins r s (n a)) any)
-item_fail begins q r (LinesFail.many_items s o n) = LinesFail.many_items (reads_append r.reads s) (λ l. begins_with q r s (o l)) (λ l. none_with begins r s (n l))
+item_fail begins q r (LinesFail.many_items s i o n) = LinesFail.many_items (reads_append r.reads s) (λ l. syntax_begins q r s (i l)) (λ l. begins_with q r s (o l)) (λ l. none_with begins r s (n l))
 
 -- the line doesn't end behind the item
 pub not_ended : {text : List ℕ} {b m : ℕ} {t u : Token} {i : SurfaceItem} → 1 ≤ m → begins_item t.kind ≡ true → ends_line u.kind ≡ false → Read text (ItemIs b i) (SomeItem b) behind_term t u → LinesFail text b m t (Syntax u.span.start)
@@ -279,7 +279,7 @@ first_begins b l text _ s e h = absurd (false≢true h)
 
 -- one item too many begins
 pub too_many : (text : List ℕ) (t : Token) (b : ℕ) → begins_item t.kind ≡ true → LinesFail text b 0 t (ManyItems t.span.start)
-too_many text t b begins = LinesFail.many_items Reads.here (λ l. item_begins (omega arith) (first_begins b l text t.kind t.span.start t.span.end begins))
+too_many text t b begins = LinesFail.many_items Reads.here (begins_nothing b 0) (λ l. item_begins (omega arith) (first_begins b l text t.kind t.span.start t.span.end begins))
     (λ l more is p few.
     let d = item_first p (seen_item text t more begins) in
     let none : suc (length d.others) ≤ 0 = subst (λ v. length v ≤ 0) d.all few in
@@ -333,7 +333,7 @@ book_fails text t n LinesFail.memory = Refuses.memory
 book_fails text t n (LinesFail.lex r e i s) = Refuses.lex (tokens_to_fault n r e i) (λ l. begins_book (s l))
 book_fails text t n (LinesFail.syntax r s o) = Refuses.syntax (record { first = t; next = n; reads = r }) (λ l. begins_book (s l)) (λ most l. none_book (o most l))
 book_fails text t n (LinesFail.deep r s o) = Refuses.deep (record { first = t; next = n; reads = r }) (begins_book s) (λ most. none_book (o most))
-book_fails text t n (LinesFail.many_items r s o) = Refuses.many_items (record { first = t; next = n; reads = r }) (λ l. begins_book (s l)) (λ l. none_book (o l))
+book_fails text t n (LinesFail.many_items r i s o) = Refuses.many_items (record { first = t; next = n; reads = r }) (λ l. begins_book (i l)) (λ l. begins_book (s l)) (λ l. none_book (o l))
 
 pub fault_at_once : (text : List ℕ) {f : LexFault} → IsFault text None f → Refuses text BeginsBook (Lex f)
 fault_at_once text i = Refuses.lex (TokensBehind.fault i) (λ l. begins_book (begins_nothing 0 100_000 l))

@@ -8,7 +8,7 @@ use Rattle.fb_lex.specs.declared.tokens.Kind.TheVariants as k
 use Rattle.fb_lex.specs.declared.tokens.Token.{Token}
 use Rattle.fb_lex.specs.Tokens.{is_end, is_name, end_of, between}
 use Rattle.fb_lex.specs.TokenList.{Lexeme, sign, name, seen, lexeme, TokensBehind, Ending}
-use Rattle.fb_lex.specs.Placed.{IsPlaced}
+use Rattle.fb_lex.proofs.Placed.{IsPlaced}
 use Rattle.fb_lex.proofs.NextPlaced.{next_placed}
 use Rattle.fb_parse.specs.Grammar.{Surface, Surfaces, none, more, span, applied, Term, App, Atoms, Atom, Terms, MoreTerms}
 use Rattle.fb_parse.specs.Items.{SurfaceArg, SurfaceBody, SurfaceKind, SurfaceItem, IsArg, MoreArgs, IsArgs, IsFilling, IsWay, IsBody, IsEntry, IsItem, IsLines}

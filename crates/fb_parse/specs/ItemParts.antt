@@ -5,19 +5,14 @@ use Rattle.fb_lex.specs.declared.tokens.Kind.TheVariants as k
 use Rattle.fb_lex.specs.declared.tokens.Token.{Token}
 use Rattle.fb_lex.specs.Tokens.{between}
 use Rattle.fb_lex.specs.TokenList.{Lexeme}
-use Rattle.fb_parse.specs.Items.{SurfaceArg, SurfaceBody, SurfaceKind, SurfaceItem, IsArg, MoreArgs, IsArgs, IsFilling, IsWay, IsBody, IsEntry, IsItem}
+use Rattle.fb_parse.specs.Items.{SurfaceArg, SurfaceBody, SurfaceKind, SurfaceItem, IsArg, IsArgs, IsFilling, IsWay, IsBody, IsEntry, IsItem}
 
+-- what stands behind `by use`, and each other part of an item: this one, and some one
 abbrev pub ArgIs : SurfaceArg → (limit : ℕ) → List Lexeme → List Lexeme → Type 0
 ArgIs a limit ts rest = IsArg limit ts a rest
 
 abbrev pub SomeArg : (limit : ℕ) → List Lexeme → List Lexeme → Type 0
 SomeArg limit ts rest = (a : SurfaceArg) × IsArg limit ts a rest
-
-abbrev pub MoreArgsAre : List SurfaceArg → (limit : ℕ) → List Lexeme → List Lexeme → Type 0
-MoreArgsAre xs limit ts rest = MoreArgs limit ts xs rest
-
-abbrev pub SomeMoreArgs : (limit : ℕ) → List Lexeme → List Lexeme → Type 0
-SomeMoreArgs limit ts rest = (xs : List SurfaceArg) × MoreArgs limit ts xs rest
 
 abbrev pub ArgsAre : List SurfaceArg → (limit : ℕ) → List Lexeme → List Lexeme → Type 0
 ArgsAre xs limit ts rest = IsArgs limit ts xs rest
@@ -55,6 +50,7 @@ ItemIs bars i limit ts rest = IsItem limit bars ts i rest
 abbrev pub SomeItem : (bars : ℕ) → (limit : ℕ) → List Lexeme → List Lexeme → Type 0
 SomeItem bars limit ts rest = (i : SurfaceItem) × IsItem limit bars ts i rest
 
+-- the tokens with which an item begins
 abbrev pub begins_item : Kind → Bool
 begins_item k.LBracket = true
 begins_item k.Name = true

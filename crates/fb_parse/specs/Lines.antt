@@ -37,5 +37,5 @@ pub data LinesFail (text : List ℕ) (bars most : ℕ) (t : Token) : ParseFault 
       ((any limit : ℕ) → NoLines bars any limit (ts ++ seen text u ∷ [])) → LinesFail text bars most t (Syntax u.span.start)
   deep : {ts : List Lexeme} {u : Token} → Reads text t ts u → BeginsLines bars most u.span.start (ts ++ seen text u ∷ []) →
       ((any : ℕ) → NoLines bars any (suc u.span.start) (ts ++ seen text u ∷ [])) → LinesFail text bars most t (Deep u.span.start)
-  many_items : {ts : List Lexeme} {u : Token} → Reads text t ts u → ((limit : ℕ) → BeginsLines bars (most + 1) limit (ts ++ seen text u ∷ [])) →
+  many_items : {ts : List Lexeme} {u : Token} → Reads text t ts u → ((limit : ℕ) → BeginsLines bars most limit ts) → ((limit : ℕ) → BeginsLines bars (most + 1) limit (ts ++ seen text u ∷ [])) →
       ((limit : ℕ) → NoLines bars most limit (ts ++ seen text u ∷ [])) → LinesFail text bars most t (ManyItems u.span.start)

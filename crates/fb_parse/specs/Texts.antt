@@ -63,6 +63,6 @@ pub data Refuses (text : List ℕ) (Begins : (most limit : ℕ) → List Lexeme 
   -- with t they begin it, but not if a term that begins at t is not to be nested deeper than 500
   deep : {ts : List Lexeme} {t : Token} → StartsWith text ts t → Begins 100_000 t.span.start (ts ++ seen text t ∷ []) →
       ((most : ℕ) → Begins most (suc t.span.start) (ts ++ seen text t ∷ []) → ⊥) → Refuses text Begins (Deep t.span.start)
-  -- with t they begin it, but only with more than 100,000 items
-  many_items : {ts : List Lexeme} {t : Token} → StartsWith text ts t → ((limit : ℕ) → Begins 100_001 limit (ts ++ seen text t ∷ [])) →
+  -- the tokens before t begin it, and with t they do only with more than 100,000 items
+  many_items : {ts : List Lexeme} {t : Token} → StartsWith text ts t → ((limit : ℕ) → Begins 100_000 limit ts) → ((limit : ℕ) → Begins 100_001 limit (ts ++ seen text t ∷ [])) →
       ((limit : ℕ) → Begins 100_000 limit (ts ++ seen text t ∷ []) → ⊥) → Refuses text Begins (ManyItems t.span.start)

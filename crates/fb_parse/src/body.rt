@@ -5,7 +5,6 @@ ghost use Rattle.fb_lex.specs.declared.tokens.Kind.TheVariants as kinds;
 ghost use Rattle.fb_parse.specs.Parts.{behind_term, behind_terms};
 ghost use Rattle.fb_parse.specs.ItemParts.{ArgIs, SomeArg, ArgsAre, SomeArgs, FillingIs, SomeFilling, WayIs, SomeWay, BodyIs, SomeBody, IsWordAt};
 ghost use Rattle.fb_parse.specs.Reading.{Read, Fails, Stands};
-ghost use Rattle.fb_parse.specs.View.{view, views};
 ghost use Rattle.fb_parse.specs.declared.fault.ParseFault.TheVariants as faults;
 ghost use Rattle.fb_parse.specs.ItemView.{arg_view, args_view, body_view};
 

@@ -1,13 +1,16 @@
 //! Books.
-ghost use Rattle.std.specs.Prelude.{◌≡◌, ◌<◌, ◌≤◌, ◌+◌, ◌^◌, length, MatchResult};
+ghost use Rattle.std.specs.Prelude.{◌≡◌, ◌<◌, ◌≤◌, ◌+◌, ◌-◌, ◌^◌, true, length, IfOk, MatchResult};
+ghost use Rattle.fb_lex.specs.TokenList.{left};
+ghost use Rattle.fb_parse.specs.ItemParts.{ItemIs, SomeItem};
+ghost use Rattle.fb_parse.specs.Parts.{behind_term};
 ghost use Rattle.fb_parse.specs.ItemParts as part;
 ghost use Rattle.fb_parse.specs.Items as spec;
-ghost use Rattle.fb_parse.specs.Reading.{Stands};
+ghost use Rattle.fb_parse.specs.Reading.{Read, Stands};
 ghost use Rattle.fb_parse.specs.Lines.{LinesAre, LinesFail};
-ghost use Rattle.fb_parse.specs.ItemView.{items_view};
+ghost use Rattle.fb_parse.specs.ItemView.{item_view, items_view};
 
 use crate::fault::ParseFault;
-use crate::item::item;
+use crate::item::{ItemPart, item};
 use crate::steps::advance;
 use crate::tree::Book;
 use bumpalo::Bump;
@@ -55,13 +58,7 @@ pub fn lines<'a>(arena: &'a Bump, text: &'a [u8], first: Token) -> Result<Book<'
                 if !begins_item(next.kind) {
                     return Err(ParseFault::Syntax(next.span.start));
                 }
-                if items.len() == MOST_ITEMS {
-                    return Err(ParseFault::ManyItems(next.span.start));
-                }
-                let part = item(arena, text, next, bars)?;
-                if !ends_line(part.next.kind) {
-                    return Err(ParseFault::Syntax(part.next.span.start));
-                }
+                let part = next_item(arena, text, next, bars, items.len())?;
                 if items.push(part.item).is_err() {
                     return Err(ParseFault::Memory);
                 }
@@ -72,4 +69,32 @@ pub fn lines<'a>(arena: &'a Bump, text: &'a [u8], first: Token) -> Result<Book<'
     Ok(Book {
         items: into_bump_slice(items),
     })
+}
+
+// The item that begins at this token, behind so many items, with the end of its line behind it.
+fn next_item<'a>(
+    arena: &'a Bump,
+    text: &'a [u8],
+    at: Token,
+    bars: u32,
+    before: usize,
+) -> Result<ItemPart<'a>, ParseFault>
+    requires stands { Stands text.now at }
+    requires begins { part.begins_item at.kind ≡ true }
+    requires few { before ≤ 100000 }
+    ensures read { MatchResult result (λ p. Read text.now (ItemIs bars (item_view text.now p.item)) (SomeItem bars) behind_term at p.next)
+        (LinesFail text.now bars (100000 - before) at) }
+    ensures ended { IfOk result (λ p. spec.ends_line p.next.kind ≡ true) }
+    ensures room { IfOk result (λ p. before < 100000) }
+    ensures later { IfOk result (λ p. left text.now p.next < left text.now at) }
+    ensures stands { IfOk result (λ p. Stands text.now p.next) }
+{
+    if before == MOST_ITEMS {
+        return Err(ParseFault::ManyItems(at.span.start));
+    }
+    let part = item(arena, text, at, bars)?;
+    if !ends_line(part.next.kind) {
+        return Err(ParseFault::Syntax(part.next.span.start));
+    }
+    Ok(part)
 }

@@ -1,5 +1,5 @@
 //! Items.
-ghost use Rattle.std.specs.Prelude.{◌≡◌, ◌<◌, ◌≤◌, MatchResult, IfOk};
+ghost use Rattle.std.specs.Prelude.{◌≡◌, ◌<◌, MatchResult, IfOk};
 ghost use Rattle.fb_lex.specs.TokenList.{left};
 ghost use Rattle.fb_lex.specs.declared.tokens.Kind.TheVariants as kinds;
 ghost use Rattle.fb_parse.specs.Parts.{behind_term};

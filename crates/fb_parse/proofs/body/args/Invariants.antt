@@ -3,10 +3,11 @@ use Rattle.fb_lex.specs.declared.tokens.Token.{Token}
 use Rattle.fb_lex.specs.TokenList.{left}
 use Rattle.fb_parse.specs.declared.fault.ParseFault.{ParseFault}
 use Rattle.fb_parse.specs.Items.{SurfaceArg}
-use Rattle.fb_parse.specs.ItemParts.{ArgsAre, SomeArgs, MoreArgsAre, SomeMoreArgs}
+use Rattle.fb_parse.specs.ItemParts.{ArgsAre, SomeArgs}
 use Rattle.fb_parse.specs.ItemView.{before_args}
 use Rattle.fb_parse.specs.Parts.{behind_terms}
 use Rattle.fb_parse.specs.Reading.{Read, Fails, Stands}
+use Rattle.fb_parse.proofs.MoreParts.{MoreArgsAre, SomeMoreArgs}
 use Rattle.fb_parse.proofs.body.args.Given as goal
 
 -- what is read from here on completes what is to be read, and what fails here fails there

@@ -1,11 +1,10 @@
-use Rattle.std.proofs.Common.{arith, ◌≡◌, ◌≤◌, ◌+◌, ◌-◌, [], ◌∷◌, ◌++◌, length, vec_len, ap, ◌∙◌, sym, subst}
+use Rattle.std.proofs.Common.{arith, ◌≡◌, ◌+◌, ◌-◌, [], ◌∷◌, ◌++◌, length, vec_len, ap, ◌∙◌, sym, subst}
 use Rattle.std.proofs.lemmas.Result.{err_from_is_err_and}
 use Rattle.std.proofs.lemmas.Grind.{common_steps}
 use Rattle.fb_lex.specs.Tokens.{is_end}
-use Rattle.fb_parse.specs.declared.fault.ParseFault.TheVariants.{ManyItems}
 use Rattle.fb_parse.specs.ItemView.{item_view, items_view, before_items}
 use Rattle.fb_parse.specs.Lines.{LinesAre, LinesFail}
-use Rattle.fb_parse.proofs.LineRules.{lines_end, pass_are, pass_fail, pass_fault, bar_passes, bar_back, line_passes, line_back, no_item, too_many, item_fails, not_ended, item_are, item_fail, left_within, left_some, before_items_push, before_items_none}
+use Rattle.fb_parse.proofs.LineRules.{lines_end, pass_are, pass_fail, pass_fault, bar_passes, bar_back, line_passes, line_back, no_item, item_are, item_fail, left_within, left_some, before_items_push, before_items_none}
 use Rattle.fb_parse.proofs.book.lines.Goals as goal
 
 pub lines-init : goal.lines-init
@@ -57,24 +56,13 @@ lines-preserved-in-Newline c = record {
 pub returns-then-not-begins_item : goal.returns-then-not-begins_item
 returns-then-not-begins_item c = c.lines.invariant.fails _ (no_item c.args.text.now c.lines.next c.lines.bars _ c.in_default.not-End c.in_default.not-Bar c.in_default.not-Newline (sym c.if-not-begins_item.ensures))
 
-pub returns-then-len-eq-MOST_ITEMS : goal.returns-then-len-eq-MOST_ITEMS
-returns-then-len-eq-MOST_ITEMS c =
-    let full : 0 ≡ 100_000 - vec_len c.lines.items = omega (arith, c.len.ensures, c.if-len-eq-MOST_ITEMS.true) in
-    c.lines.invariant.fails _ (subst (λ n. LinesFail c.args.text.now c.lines.bars n c.lines.next (ManyItems c.lines.next.span.start)) full (too_many c.args.text.now c.lines.next c.lines.bars (sym c.if-not-begins_item.ensures)))
-
-pub item-requires : goal.item-requires
-item-requires c = record { stands = c.lines.invariant.stands }
+pub next_item-requires : goal.next_item-requires
+next_item-requires c = record { stands = c.lines.invariant.stands; begins = sym c.if-not-begins_item.ensures; few = omega (arith, c.len.ensures, c.lines.invariant.few) }
 
 pub returns-in_err-part-in_default : goal.returns-in_err-part-in_default
 returns-in_err-part-in_default c =
-    let some : 1 ≤ 100_000 - vec_len c.lines.items = omega (arith, c.len.ensures, c.if-len-eq-MOST_ITEMS.false, c.lines.invariant.few) in
     let p = err_from_is_err_and c.from_residual-in_err-part-in_default.result c.from_residual-in_err-part-in_default.ensures.1 in
-    rw (p.1, p.2) (c.lines.invariant.fails _ (item_fails some (sym c.if-not-begins_item.ensures) c.in_err-part-in_default.ensures.read))
-
-pub returns-then-not-ends_line : goal.returns-then-not-ends_line
-returns-then-not-ends_line c =
-    let some : 1 ≤ 100_000 - vec_len c.lines.items = omega (arith, c.len.ensures, c.if-len-eq-MOST_ITEMS.false, c.lines.invariant.few) in
-    c.lines.invariant.fails _ (not_ended some (sym c.if-not-begins_item.ensures) (sym c.if-not-ends_line.ensures) c.in_ok-part-in_default.ensures.read)
+    rw (p.1, p.2) (c.lines.invariant.fails _ (subst (λ n. LinesFail c.args.text.now c.lines.bars (100_000 - n) c.lines.next c.in_err-part-in_default.field-0.0) c.len.ensures c.in_err-part-in_default.ensures.read))
 
 pub returns-then-is_err : goal.returns-then-is_err
 returns-then-is_err c = LinesFail.memory
@@ -83,14 +71,14 @@ pub lines-preserved : goal.lines-preserved
 lines-preserved c =
     let pushed : c.push.new.self.items ≡ c.lines.items.items ++ c.in_ok-part-in_default.part.item ∷ [] = grind (arith, common_steps) in
     let grown : vec_len c.push.new.self ≡ vec_len c.lines.items + 1 = grind (arith, common_steps) in
-    let fewer : (100_000 - vec_len c.push.new.self) + 1 ≡ 100_000 - vec_len c.lines.items = omega (arith, grown, c.len.ensures, c.if-len-eq-MOST_ITEMS.false, c.lines.invariant.few) in
+    let fewer : (100_000 - vec_len c.push.new.self) + 1 ≡ 100_000 - vec_len c.lines.items = omega (arith, grown, c.len.ensures, c.in_ok-part-in_default.ensures.room, c.lines.invariant.few) in
     record {
       stands = c.in_ok-part-in_default.ensures.stands;
       read = λ is h. subst (λ v. LinesAre c.args.text.now 0 c.args.first v)
           (sym (ap (λ w. before_items c.args.text.now w is) pushed ∙ before_items_push c.args.text.now c.lines.items.items c.in_ok-part-in_default.part.item is))
-          (c.lines.invariant.read (item_view c.args.text.now c.in_ok-part-in_default.part.item ∷ is) (item_are (sym c.if-not-ends_line.ensures) c.in_ok-part-in_default.ensures.read h));
-      fails = λ f h. c.lines.invariant.fails f (subst (λ n. LinesFail c.args.text.now c.lines.bars n c.lines.next f) fewer (item_fail (sym c.if-not-begins_item.ensures) (sym c.if-not-ends_line.ensures) c.in_ok-part-in_default.ensures.read h));
-      few = omega (arith, grown, c.len.ensures, c.if-len-eq-MOST_ITEMS.false, c.lines.invariant.few);
+          (c.lines.invariant.read (item_view c.args.text.now c.in_ok-part-in_default.part.item ∷ is) (item_are c.in_ok-part-in_default.ensures.ended c.in_ok-part-in_default.ensures.read h));
+      fails = λ f h. c.lines.invariant.fails f (subst (λ n. LinesFail c.args.text.now c.lines.bars n c.lines.next f) fewer (item_fail (sym c.if-not-begins_item.ensures) c.in_ok-part-in_default.ensures.ended c.in_ok-part-in_default.ensures.read h));
+      few = omega (arith, grown, c.len.ensures, c.in_ok-part-in_default.ensures.room, c.lines.invariant.few);
       room = omega (arith, c.lines.invariant.room, c.in_ok-part-in_default.ensures.later);
     }
 
