@@ -1,4 +1,5 @@
--- What a layer above needs: that judgements which are kept are derivable, and what it owes for a record to be kept.
+-- What a layer above needs: that judgements which are kept are derivable and name entries that are there, and what it owes
+-- for a record to be kept.
 use Rattle.std.proofs.Common.{◌≡◌, ◌≤◌, ◌∙◌, ℕ, List, length, take, ap, sym, subst, arith}
 use Rattle.ld_terms.specs.Item.{Item, tree, IsOne}
 use Rattle.ld_terms.specs.Bank.{StandsFor, IsTermAt}
@@ -6,6 +7,7 @@ use Rattle.ld_terms.specs.declared.bank.TermId.{TermId}
 use Rattle.ld_terms.specs.Derivable.{◌⨾◌⊢◌∶◌}
 use Rattle.ld_terms.specs.Tree.{Tree, Trees, Nil}
 use Rattle.ld_terms.specs.Known.{Known, Judgement, nothing, context_at}
+use Rattle.ld_terms.specs.Named.{IsNamed}
 use Rattle.ld_record.specs.declared.record.JudgeId.{JudgeId}
 use Rattle.ld_record.specs.declared.record.CtxId.{CtxId}
 use Rattle.ld_record.specs.declared.record.Judge.{Judge}
@@ -14,9 +16,10 @@ use Rattle.ld_record.specs.declared.record.Kept.{Kept}
 use Rattle.ld_record.specs.Follows.{Follows}
 use Rattle.ld_record.specs.Kept.{judgement_of, known_of, FitsNode, IsSound}
 use Rattle.ld_record.specs.Growth.{Knows, KnowsContext}
-use Rattle.ld_record.specs.Laws.{IsDerivableIn}
+use Rattle.ld_record.specs.Laws.{IsDerivableIn, IsNamedIn}
 use Rattle.ld_record.proofs.Growing.{grows_after}
 use Rattle.ld_record.proofs.Derived.{kept_nodes_are_derivable}
+use Rattle.ld_record.proofs.Named.{kept_terms_are_named}
 
 -- a judgement that is known by its number is derivable
 pub known_derivable : (items : List Item) (kept : List Kept) (j : JudgeId) (s : Judgement) → IsSound items kept → Knows (known_of items kept) j s → IsDerivableIn (known_of items kept).env s
@@ -25,6 +28,11 @@ known_derivable items kept j s sound knows = subst (IsDerivableIn (known_of item
 pub derivable : (items : List Item) (kept : List Kept) (j : JudgeId) (s : Judgement) → IsSound items kept → Knows (known_of items kept) j s
     → take s.entries (known_of items kept).env ⨾ s.context ⊢ s.term ∶ s.type
 derivable items kept j s sound knows = (known_derivable items kept j s sound knows).derivable
+
+-- its term and type name entries that are there, with as many arguments as parameters
+pub named : (items : List Item) (kept : List Kept) (j : JudgeId) (s : Judgement) → IsSound items kept → Knows (known_of items kept) j s
+    → IsNamed (known_of items kept).env s.term × IsNamed (known_of items kept).env s.type
+named items kept j s sound knows = subst (IsNamedIn (known_of items kept).env) knows.is (kept_terms_are_named items kept sound j.0 knows.live)
 
 -- the number 0 is that of the empty context
 pub empty_known : (items : List Item) (kept : List Kept) (c : CtxId) → c.0 ≡ 0 → KnowsContext (known_of items kept) c Nil

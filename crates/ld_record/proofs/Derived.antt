@@ -221,6 +221,7 @@ kept_holds items known hold (kept.Entry name j true) h =
     more_entries known hold (primitive_entry name (judgement_at known j.0)) (primitive_holds known hold name j.0 h.may.free h.may.over h.may.sort)
 kept_holds items known hold (kept.Entry name j false) h =
     more_entries known hold (line_entry name (judgement_at known j.0)) (line_holds known hold name j.0 h.may.free h.may.over)
+kept_holds items known hold (kept.Flag j) h = more_flags known hold (judgement_at known j.0)
 
 all_kept_hold : (items : List Item) (known : Known) → AllHold known → (ks : List Kept) → AreSound items known ks → AllHold (said.known_after items known ks)
 all_kept_hold items known hold [] h = hold

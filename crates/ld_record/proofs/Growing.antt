@@ -7,13 +7,13 @@ use Rattle.ld_terms.specs.Bank.{tree_at, Extends}
 use Rattle.ld_terms.proofs.Banks.{term_at_later}
 use Rattle.ld_terms.specs.Entry.{Primitive}
 use Rattle.ld_terms.specs.Entry as named
-use Rattle.ld_terms.specs.Known.{Known, nothing, Judgement, no_judgement, context_at, judgement_at, with_context, with_node, with_entry, primitive_entry}
+use Rattle.ld_terms.specs.Known.{Known, nothing, Judgement, no_judgement, context_at, judgement_at, with_context, with_node, with_entry, with_flag, primitive_entry}
 use Rattle.ld_record.specs.declared.record.JudgeId.{JudgeId}
 use Rattle.ld_record.specs.declared.record.CtxId.{CtxId}
 use Rattle.ld_record.specs.declared.record.Judge.{Judge}
 use Rattle.ld_record.specs.declared.record.Step.{Step}
 use Rattle.ld_record.specs.declared.record.Kept.{Kept}
-use Rattle.ld_record.specs.declared.record.Kept.TheVariants.{Context, Node, Entry}
+use Rattle.ld_record.specs.declared.record.Kept.TheVariants.{Context, Node, Entry, Flag}
 use Rattle.ld_record.specs.Follows.{entry_at, IsDefined, Follows}
 use Rattle.ld_record.specs.Kept.{IsJudged, judgement_of, entry_by, with_kept, known_after, known_of, HasNumbers, FitsNode, Fits, AreSound, IsSound}
 use Rattle.ld_record.specs.Tables.{judges_of, prims_of}
@@ -123,10 +123,14 @@ grows_entry known e = record {
   entry = λ k h. get_or_append_left known.env (e ∷ []) (primitive_entry [] no_judgement) k h;
 }
 
+grows_flag : (known : Known) (j : Judgement) → Grows known (with_flag known j)
+grows_flag known j = record { contexts = omega arith; context = λ c h. refl; nodes = omega arith; node = λ n h. refl; env = omega arith; entry = λ k h. refl }
+
 pub grows_kept : (items : List Item) (known : Known) (k : Kept) → Grows known (with_kept items known k)
 grows_kept items known (Context c t) = grows_by_adding known (with_kept items known (Context c t)) (adds_context known (context_at known c.0 ▸ tree_at items t))
 grows_kept items known (Node judge step) = grows_by_adding known (with_kept items known (Node judge step)) (adds_node known (judgement_of items known judge))
 grows_kept items known (Entry name j prim) = grows_entry known (entry_by prim name (judgement_at known j.0))
+grows_kept items known (Flag j) = grows_flag known (judgement_at known j.0)
 
 pub grows_after : (items : List Item) (known : Known) (ks : List Kept) → Grows known (known_after items known ks)
 grows_after items known [] = grows_refl known
@@ -168,6 +172,7 @@ judged_at items known (Node judge step ∷ ks) (suc i) d h l =
     let e : length (known.nodes ++ s ∷ []) + i ≡ length known.nodes + suc i = omega (arith, length_push known.nodes s) in
     subst P e (judged_at items (with_node known s) ks i d h.1 (omega arith))
 judged_at items known (Entry name j prim ∷ ks) i d h l = judged_at items (with_kept items known (Entry name j prim)) ks i d h.1 l
+judged_at items known (Flag j ∷ ks) i d h l = judged_at items (with_kept items known (Flag j)) ks i d h.1 l
 
 -- the judgement that a read of a derivation gives
 pub read_judge : (items : List Item) (ks : List Kept) (judges : List Judge) (judge : Judge) (j : JudgeId) → IsSound items ks → judges ≡ judges_of ks
@@ -203,6 +208,7 @@ pub kind_at : (items : List Item) (known : Known) (ks : List Kept) (i : ℕ) (d 
 kind_at items known [] i d l = absurd (omega arith)
 kind_at items known (Context c t ∷ ks) i d l = kind_at items (with_kept items known (Context c t)) ks i d l
 kind_at items known (Node judge step ∷ ks) i d l = kind_at items (with_kept items known (Node judge step)) ks i d l
+kind_at items known (Flag j ∷ ks) i d l = kind_at items (with_kept items known (Flag j)) ks i d l
 kind_at items known (Entry name j prim ∷ ks) zero d l =
     let P : ℕ → Type 0 = λ n. IsKind prim (entry_at (known_after items known (Entry name j prim ∷ ks)).env n).body in
     subst P (sym (add-zero (length known.env))) (first_kind items known name j prim ks)
@@ -216,6 +222,7 @@ pub length-env : (items : List Item) (known : Known) (ks : List Kept) → length
 length-env items known [] = sym (add-zero (length known.env))
 length-env items known (Context c t ∷ ks) = length-env items (with_kept items known (Context c t)) ks
 length-env items known (Node judge step ∷ ks) = length-env items (with_kept items known (Node judge step)) ks
+length-env items known (Flag j ∷ ks) = length-env items (with_kept items known (Flag j)) ks
 length-env items known (Entry name j prim ∷ ks) =
     let e = entry_by prim name (judgement_at known j.0) in
     omega (arith, length-env items (with_entry known e) ks, length_push known.env e)
@@ -243,6 +250,7 @@ kept_later : (old new : List Item) (known : Known) (k : Kept) → Extends old ne
 kept_later old new known (Context c t) e h = ap (λ (x : Item). with_context known (context_at known c.0 ▸ tree x)) (e.kept t h.term.live)
 kept_later old new known (Node judge step) e h = ap (with_node known) (judgement_later old new known judge e h.numbers)
 kept_later old new known (Entry name j prim) e h = refl
+kept_later old new known (Flag j) e h = refl
 
 known_afters_later : (old new : List Item) (known : Known) (ks : List Kept) → Extends old new → AreSound old known ks → known_after new known ks ≡ known_after old known ks
 known_afters_later old new known [] e h = refl
@@ -269,6 +277,7 @@ fits_later old new known (Node judge step) e h =
       follows = subst Q (sym (judgement_later old new known judge e h.numbers)) h.follows;
     }
 fits_later old new known (Entry name j prim) e h = h
+fits_later old new known (Flag j) e h = h
 
 are_sound_later : (old new : List Item) (known : Known) (ks : List Kept) → Extends old new → AreSound old known ks → AreSound new known ks
 are_sound_later old new known [] e h = tt

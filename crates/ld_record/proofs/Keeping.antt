@@ -7,7 +7,7 @@ use Rattle.ld_terms.specs.Bank.{tree_at}
 use Rattle.ld_terms.specs.Known.{Known, nothing, context_at, with_context, with_node}
 use Rattle.ld_record.specs.declared.record.Judge.{Judge}
 use Rattle.ld_record.specs.declared.record.Kept.{Kept}
-use Rattle.ld_record.specs.declared.record.Kept.TheVariants.{Context, Node, Entry}
+use Rattle.ld_record.specs.declared.record.Kept.TheVariants.{Context, Node, Entry, Flag}
 use Rattle.ld_record.specs.Kept.{judgement_of, with_kept, known_after, known_of, Fits, AreSound, IsSound, Begins}
 use Rattle.ld_record.specs.Tables.{judges_of, prims_of, contexts_of, AreTables}
 
@@ -38,24 +38,28 @@ judges_of-push [] k = refl
 judges_of-push (Context c t ∷ ks) k = judges_of-push ks k
 judges_of-push (Node judge step ∷ ks) k = ap (λ js. judge ∷ js) (judges_of-push ks k)
 judges_of-push (Entry name j prim ∷ ks) k = judges_of-push ks k
+judges_of-push (Flag j ∷ ks) k = judges_of-push ks k
 
 pub prims_of-push : (ks : List Kept) (k : Kept) → prims_of (ks ++ k ∷ []) ≡ prims_of ks ++ prims_of (k ∷ [])
 prims_of-push [] k = refl
 prims_of-push (Context c t ∷ ks) k = prims_of-push ks k
 prims_of-push (Node judge step ∷ ks) k = prims_of-push ks k
 prims_of-push (Entry name j prim ∷ ks) k = ap (λ ps. prim ∷ ps) (prims_of-push ks k)
+prims_of-push (Flag j ∷ ks) k = prims_of-push ks k
 
 pub contexts_of-push : (ks : List Kept) (k : Kept) → contexts_of (ks ++ k ∷ []) ≡ contexts_of ks + contexts_of (k ∷ [])
 contexts_of-push [] k = omega arith
 contexts_of-push (Context c t ∷ ks) k = omega (arith, contexts_of-push ks k)
 contexts_of-push (Node judge step ∷ ks) k = contexts_of-push ks k
 contexts_of-push (Entry name j prim ∷ ks) k = contexts_of-push ks k
+contexts_of-push (Flag j ∷ ks) k = contexts_of-push ks k
 
 pub contexts_within : (ks : List Kept) → contexts_of ks ≤ length ks
 contexts_within [] = omega arith
 contexts_within (Context c t ∷ ks) = omega (arith, contexts_within ks)
 contexts_within (Node judge step ∷ ks) = omega (arith, contexts_within ks)
 contexts_within (Entry name j prim ∷ ks) = omega (arith, contexts_within ks)
+contexts_within (Flag j ∷ ks) = omega (arith, contexts_within ks)
 
 -- the tables with one record more: the table of its kind grows
 pub tables_push : (old new : List Kept) (judges more_judges : List Judge) (prims more_prims : List Bool) (contexts more_contexts : ℕ) (k : Kept)
@@ -75,6 +79,7 @@ length-nodes items known (Context c t ∷ ks) = length-nodes items (with_kept it
 length-nodes items known (Node judge step ∷ ks) =
     omega (arith, length-nodes items (with_node known (judgement_of items known judge)) ks, length_push known.nodes (judgement_of items known judge))
 length-nodes items known (Entry name j prim ∷ ks) = length-nodes items (with_kept items known (Entry name j prim)) ks
+length-nodes items known (Flag j ∷ ks) = length-nodes items (with_kept items known (Flag j)) ks
 
 pub length-contexts : (items : List Item) (known : Known) (ks : List Kept) → length (known_after items known ks).contexts ≡ length known.contexts + contexts_of ks
 length-contexts items known [] = sym (add-zero (length known.contexts))
@@ -82,6 +87,7 @@ length-contexts items known (Context c t ∷ ks) =
     omega (arith, length-contexts items (with_context known (context_at known c.0 ▸ tree_at items t)) ks, length_push known.contexts (context_at known c.0 ▸ tree_at items t))
 length-contexts items known (Node judge step ∷ ks) = length-contexts items (with_kept items known (Node judge step)) ks
 length-contexts items known (Entry name j prim ∷ ks) = length-contexts items (with_kept items known (Entry name j prim)) ks
+length-contexts items known (Flag j ∷ ks) = length-contexts items (with_kept items known (Flag j)) ks
 
 pub nodes_known : (items : List Item) (ks : List Kept) → length (known_of items ks).nodes ≡ length (judges_of ks)
 nodes_known items ks = omega (arith, length-nodes items nothing ks)
@@ -91,9 +97,6 @@ contexts_known items ks = omega (arith, length-contexts items nothing ks)
 
 pub begins_refl : (ks : List Kept) → Begins ks ks
 begins_refl ks = record { front = take_all (length ks) ks (omega arith) }
-
-pub begins_push : (ks : List Kept) (k : Kept) → Begins ks (ks ++ k ∷ [])
-begins_push ks k = record { front = take_at ks (k ∷ []) (length ks) refl }
 
 pub begins_no_longer : (a b : List Kept) → Begins a b → length a ≤ length b
 begins_no_longer a b h = omega (arith, length-take (length a) b, ap length h.front)

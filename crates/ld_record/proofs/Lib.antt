@@ -7,4 +7,5 @@ pub mod Prefixes
 pub mod Holding
 pub mod Arguments
 pub mod Derived
+pub mod Named
 pub mod CallerLemmas

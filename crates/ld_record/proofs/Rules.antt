@@ -9,13 +9,13 @@ use Rattle.ld_terms.specs.Tree.{Tree, Star, Box, Var, App, Lam, Pi, Const, Trees
 use Rattle.ld_terms.specs.Put.{lift, put, put_below, put_all_below, in_place_below}
 use Rattle.ld_terms.specs.Entry.{Body, Defined, Primitive, Env, EntryAt, HasBody, defined}
 use Rattle.ld_terms.specs.Rule.{Rule}
-use Rattle.ld_terms.specs.Known.{Known, Judgement, judgement_at, no_judgement, primitive_entry, IsNode, JudgeArguments, FollowsBy, MayBeLine, MayBePrimitive}
+use Rattle.ld_terms.specs.Known.{Known, Judgement, judgement_at, no_judgement, primitive_entry, IsNode, JudgeArguments, FollowsBy, MayBeLine, MayBePrimitive, MayBeFlag}
 use Rattle.ld_terms.specs.Record.{State, RuleIsThere}
 use Rattle.ld_record.specs.declared.record.JudgeId.{JudgeId}
 use Rattle.ld_record.specs.declared.record.Step.{Step}
 use Rattle.ld_record.specs.declared.record.Step.TheVariants as step
 use Rattle.ld_record.specs.Follows.{rule_of, entry_at, IsDefined, Over, Instance, Follows}
-use Rattle.ld_record.specs.Kept.{FitsEntry}
+use Rattle.ld_record.specs.Kept.{FitsEntry, FitsFlag}
 
 -- nothing put in changes nothing
 none_in_place : (below i : ℕ) → in_place_below Nil below i ≡ Var i
@@ -100,6 +100,11 @@ module _ (known : Known) where
   follows_by s step.Sort h =
       follows_as s (record { entries = 0; context = Nil; term = Star; type = Box }) Rule.Sort
       (parts s 0 Nil Star Box h.entries h.context h.term h.type) FollowsBy.sort
+  follows_by s (step.Var n) h =
+      let f = At n.0 in
+      follows_as s (record { entries = s.entries; context = f.context ▸ f.term; term = Var 0; type = lift f.term 1 0 }) (Rule.Var n.0)
+      (parts s s.entries (f.context ▸ f.term) (Var 0) (lift f.term 1 0) refl h.context h.term h.type)
+      (FollowsBy.var h.sort (parts f s.entries f.context f.term f.type h.premise.entries refl refl refl))
   follows_by s (step.Weak n m) h =
       let f = At n.0 in
       let g = At m.0 in
@@ -112,6 +117,18 @@ module _ (known : Known) where
       follows_as s (record { entries = s.entries; context = s.context; term = Pi f.term g.term; type = g.type }) (Rule.Form n.0 m.0)
       (parts s s.entries s.context (Pi f.term g.term) g.type refl refl h.term h.type)
       (FollowsBy.form h.domain h.range (parts f s.entries s.context f.term f.type h.first.entries h.outer refl refl) (parts g s.entries (s.context ▸ f.term) g.term g.type h.second.entries h.inner refl refl))
+  follows_by s (step.Appl n m) h =
+      let f = At n.0 in
+      let g = At m.0 in
+      follows_as s (record { entries = s.entries; context = s.context; term = App f.term g.term; type = put h.range (Nil ▸ g.term) }) (Rule.Appl n.0 m.0)
+      (parts s s.entries s.context (App f.term g.term) (put h.range (Nil ▸ g.term)) refl refl h.term h.type)
+      (FollowsBy.appl (parts f s.entries s.context f.term (Pi g.type h.range) h.first.entries h.function refl h.product) (parts g s.entries s.context g.term g.type h.second.entries h.argument refl refl))
+  follows_by s (step.Abst n m) h =
+      let f = At n.0 in
+      let g = At m.0 in
+      follows_as s (record { entries = s.entries; context = s.context; term = Lam h.domain f.term; type = Pi h.domain f.type }) (Rule.Abst n.0 m.0)
+      (parts s s.entries s.context (Lam h.domain f.term) (Pi h.domain f.type) refl refl h.term h.type)
+      (FollowsBy.abst h.sort (parts f s.entries (s.context ▸ h.domain) f.term f.type h.first.entries h.inner refl refl) (parts g s.entries s.context (Pi h.domain f.type) g.type h.second.entries h.outer h.product refl))
   follows_by s (step.Def n) h =
       let f = At n.0 in
       let body = has_body (entry_at known.env f.entries).body h.body in
@@ -137,17 +154,14 @@ module _ (known : Known) where
   pub entry_names : (name : List ℕ) (j : JudgeId) (prim : Bool) → FitsEntry known name j prim → IsNode known j.0
   entry_names name j prim h = h.live
 
-  pub may_be_line : (name : List ℕ) (j : JudgeId) → FitsEntry known name j false → MayBeLine known name j.0
-  may_be_line name j h = h.may
-
-  pub may_be_primitive : (name : List ℕ) (j : JudgeId) → FitsEntry known name j true → MayBePrimitive known name j.0
-  may_be_primitive name j h = h.may
-
 -- the judgements that the rule names are there
 pub premises_there : (state : State) (s : Judgement) (by : Step) → Follows state.known s by → RuleIsThere state (rule_of by)
 premises_there state s step.Sort h = tt
+premises_there state s (step.Var n) h = h.premise.live
 premises_there state s (step.Weak n m) h = (h.first.live, h.second.live)
 premises_there state s (step.Form n m) h = (h.first.live, h.second.live)
+premises_there state s (step.Appl n m) h = (h.first.live, h.second.live)
+premises_there state s (step.Abst n m) h = (h.first.live, h.second.live)
 premises_there state s (step.Def n) h = h.over.live
 premises_there state s (step.DefPrim n) h = h.over.live
 premises_there state s (step.Inst n) h = (h.instance.star.live, tt)

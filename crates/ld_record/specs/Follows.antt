@@ -1,8 +1,8 @@
 -- When a judgement follows from earlier ones by a rule, as facts about its parts. The relation that reads like the rule
 -- table is FollowsBy of ld_terms, to which each of these leads.
 use Rattle.std.specs.Prelude.{◌≡◌, ℕ, ◌+◌, ◌<◌, [], length, slice_index_or}
-use Rattle.ld_terms.specs.Tree.{Tree, Star, Box, Pi, Const, Trees, Nil, ◌▸◌}
-use Rattle.ld_terms.specs.Put.{lift}
+use Rattle.ld_terms.specs.Tree.{Tree, Star, Box, Var, App, Lam, Pi, Const, Nil, ◌▸◌}
+use Rattle.ld_terms.specs.Put.{lift, put}
 use Rattle.ld_terms.specs.Entry.{Entry, Body, Defined, Primitive, Env}
 use Rattle.ld_terms.specs.Derivable.{IsSort}
 use Rattle.ld_terms.specs.Known.{Known, Judgement, judgement_at, no_judgement, primitive_entry}
@@ -13,8 +13,11 @@ use Rattle.ld_record.specs.declared.record.Step.TheVariants as step
 
 abbrev pub rule_of : Step → Rule
 rule_of step.Sort = Rule.Sort
+rule_of (step.Var n) = Rule.Var n.0
 rule_of (step.Weak n m) = Rule.Weak n.0 m.0
 rule_of (step.Form n m) = Rule.Form n.0 m.0
+rule_of (step.Appl n m) = Rule.Appl n.0 m.0
+rule_of (step.Abst n m) = Rule.Abst n.0 m.0
 rule_of (step.Def n) = Rule.Def n.0
 rule_of (step.DefPrim n) = Rule.DefPrim n.0
 rule_of (step.Inst n) = Rule.Inst n.0 []
@@ -38,6 +41,13 @@ pub record BySort (s : Judgement) : Type 0 where
   pub term : s.term ≡ Star
   pub type : s.type ≡ Box
 
+pub record ByVar (known : Known) (s : Judgement) (n : JudgeId) : Type 0 where
+  pub premise : IsPremise known s n
+  pub sort : IsSort (judgement_at known n.0).type
+  pub context : s.context ≡ (judgement_at known n.0).context ▸ (judgement_at known n.0).term
+  pub term : s.term ≡ Var 0
+  pub type : s.type ≡ lift (judgement_at known n.0).term 1 0
+
 pub record ByWeak (known : Known) (s : Judgement) (n m : JudgeId) : Type 0 where
   pub first : IsPremise known s n
   pub second : IsPremise known s m
@@ -56,6 +66,29 @@ pub record ByForm (known : Known) (s : Judgement) (n m : JudgeId) : Type 0 where
   pub range : IsSort (judgement_at known m.0).type
   pub term : s.term ≡ Pi (judgement_at known n.0).term (judgement_at known m.0).term
   pub type : s.type ≡ (judgement_at known m.0).type
+
+-- the first premise is of a product, whose domain is the type of the second
+pub record ByAppl (known : Known) (s : Judgement) (n m : JudgeId) : Type 0 where
+  pub first : IsPremise known s n
+  pub second : IsPremise known s m
+  pub function : (judgement_at known n.0).context ≡ s.context
+  pub argument : (judgement_at known m.0).context ≡ s.context
+  pub range : Tree
+  pub product : (judgement_at known n.0).type ≡ Pi (judgement_at known m.0).type range
+  pub term : s.term ≡ App (judgement_at known n.0).term (judgement_at known m.0).term
+  pub type : s.type ≡ put range (Nil ▸ (judgement_at known m.0).term)
+
+-- the first premise is of the body under the variable, the second of the product
+pub record ByAbst (known : Known) (s : Judgement) (n m : JudgeId) : Type 0 where
+  pub first : IsPremise known s n
+  pub second : IsPremise known s m
+  pub outer : (judgement_at known m.0).context ≡ s.context
+  pub domain : Tree
+  pub inner : (judgement_at known n.0).context ≡ s.context ▸ domain
+  pub product : (judgement_at known m.0).term ≡ Pi domain (judgement_at known n.0).type
+  pub sort : IsSort (judgement_at known m.0).type
+  pub term : s.term ≡ Lam domain (judgement_at known n.0).term
+  pub type : s.type ≡ Pi domain (judgement_at known n.0).type
 
 -- the same judgement over one entry less, which has a body or is a primitive
 pub record Over (known : Known) (s : Judgement) (n : JudgeId) : Type 0 where
@@ -94,8 +127,11 @@ pub record ByInstPrim (known : Known) (s : Judgement) (n : JudgeId) : Type 0 whe
 
 abbrev pub Follows : Known → Judgement → Step → Type 0
 Follows known s step.Sort = BySort s
+Follows known s (step.Var n) = ByVar known s n
 Follows known s (step.Weak n m) = ByWeak known s n m
 Follows known s (step.Form n m) = ByForm known s n m
+Follows known s (step.Appl n m) = ByAppl known s n m
+Follows known s (step.Abst n m) = ByAbst known s n m
 Follows known s (step.Def n) = ByDef known s n
 Follows known s (step.DefPrim n) = ByDefPrim known s n
 Follows known s (step.Inst n) = ByInst known s n

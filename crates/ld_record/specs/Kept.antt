@@ -4,14 +4,14 @@ use Rattle.ld_terms.specs.Tree.{Tree, ◌▸◌}
 use Rattle.ld_terms.specs.Item.{Item}
 use Rattle.ld_terms.specs.Bank.{tree_at, IsTermAt}
 use Rattle.ld_terms.specs.Entry as named
-use Rattle.ld_terms.specs.Known.{Known, nothing, Judgement, context_at, judgement_at, line_entry, primitive_entry, MayBeLine, MayBePrimitive, with_context, with_node, with_entry}
+use Rattle.ld_terms.specs.Known.{Known, nothing, Judgement, context_at, judgement_at, line_entry, primitive_entry, MayBeLine, MayBePrimitive, MayBeFlag, with_context, with_node, with_entry, with_flag}
 use Rattle.ld_terms.specs.declared.bank.TermId.{TermId}
 use Rattle.ld_record.specs.declared.record.JudgeId.{JudgeId}
 use Rattle.ld_record.specs.declared.record.CtxId.{CtxId}
 use Rattle.ld_record.specs.declared.record.Judge.{Judge}
 use Rattle.ld_record.specs.declared.record.Step.{Step}
 use Rattle.ld_record.specs.declared.record.Kept.{Kept}
-use Rattle.ld_record.specs.declared.record.Kept.TheVariants.{Context, Node, Entry}
+use Rattle.ld_record.specs.declared.record.Kept.TheVariants.{Context, Node, Entry, Flag}
 use Rattle.ld_record.specs.Follows.{Follows}
 
 -- the judgement that a record's numbers stand for
@@ -32,6 +32,7 @@ abbrev pub with_kept : List Item → Known → Kept → Known
 with_kept items known (Context c t) = with_context known (context_at known c.0 ▸ tree_at items t)
 with_kept items known (Node judge step) = with_node known (judgement_of items known judge)
 with_kept items known (Entry name j prim) = with_entry known (entry_by prim name (judgement_at known j.0))
+with_kept items known (Flag j) = with_flag known (judgement_at known j.0)
 
 abbrev pub known_after : List Item → Known → List Kept → Known
 known_after items known [] = known
@@ -72,11 +73,16 @@ pub record FitsEntry (known : Known) (name : List ℕ) (j : JudgeId) (prim : Boo
   pub live : j.0 < length known.nodes
   pub may : MayBeEntry prim known name j.0
 
+pub record FitsFlag (known : Known) (j : JudgeId) : Type 0 where
+  pub live : j.0 < length known.nodes
+  pub may : MayBeFlag known j.0
+
 -- a record meets its condition over what is known
 abbrev pub Fits : List Item → Known → Kept → Type 0
 Fits items known (Context c t) = FitsContext items known c t
 Fits items known (Node judge step) = FitsNode items known judge step
 Fits items known (Entry name j prim) = FitsEntry known name j prim
+Fits items known (Flag j) = FitsFlag known j
 
 abbrev pub AreSound : List Item → Known → List Kept → Type 0
 AreSound items known [] = Unit {0}

@@ -1,9 +1,11 @@
--- Each judgement of a derivation is derivable, and the environment of one that is ended is legal.
+-- Each judgement of a derivation is derivable and names only entries that are there, and the environment of one that is
+-- ended is legal.
 use Rattle.std.specs.Prelude.{ℕ, ◌<◌, ◌≤◌, List, length, take}
 use Rattle.ld_terms.specs.Entry.{Env}
 use Rattle.ld_terms.specs.Derivable.{◌⨾◌⊢◌∶◌, IsLegal}
 use Rattle.ld_terms.specs.Item.{Item}
 use Rattle.ld_terms.specs.Known.{Known, Judgement, judgement_at, MayEnd}
+use Rattle.ld_terms.specs.Named.{IsNamed}
 use Rattle.ld_terms.specs.Record.{Record, start, final, Stand}
 use Rattle.ld_record.specs.declared.record.Kept.{Kept}
 use Rattle.ld_record.specs.Kept.{known_of, IsSound}
@@ -28,3 +30,12 @@ EnvironmentIsLegal = (rs : List Record) → Stand start rs → (n : ℕ) → May
 -- the judgements of kept records are derivable
 abbrev pub KeptNodesAreDerivable : Type 0
 KeptNodesAreDerivable = (items : List Item) (kept : List Kept) → IsSound items kept → AreDerivable (known_of items kept)
+
+-- a term and its type name only entries of the environment, with as many arguments as parameters
+abbrev pub IsNamedIn : Env → Judgement → Type 0
+IsNamedIn env j = IsNamed env j.term × IsNamed env j.type
+
+-- the judgements of kept records are so, over all their entries
+abbrev pub KeptTermsAreNamed : Type 0
+KeptTermsAreNamed = (items : List Item) (kept : List Kept) → IsSound items kept → (n : ℕ) → n < length (known_of items kept).nodes →
+    IsNamedIn (known_of items kept).env (judgement_at (known_of items kept) n)

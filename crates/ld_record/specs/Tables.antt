@@ -2,19 +2,21 @@
 use Rattle.std.specs.Prelude.{◌≡◌, ℕ, suc, Bool, List, [], ◌∷◌}
 use Rattle.ld_record.specs.declared.record.Judge.{Judge}
 use Rattle.ld_record.specs.declared.record.Kept.{Kept}
-use Rattle.ld_record.specs.declared.record.Kept.TheVariants.{Context, Node, Entry}
+use Rattle.ld_record.specs.declared.record.Kept.TheVariants.{Context, Node, Entry, Flag}
 
 abbrev pub judges_of : List Kept → List Judge
 judges_of [] = []
 judges_of (Context c t ∷ ks) = judges_of ks
 judges_of (Node judge step ∷ ks) = judge ∷ judges_of ks
 judges_of (Entry name j prim ∷ ks) = judges_of ks
+judges_of (Flag j ∷ ks) = judges_of ks
 
 abbrev pub prims_of : List Kept → List Bool
 prims_of [] = []
 prims_of (Context c t ∷ ks) = prims_of ks
 prims_of (Node judge step ∷ ks) = prims_of ks
 prims_of (Entry name j prim ∷ ks) = prim ∷ prims_of ks
+prims_of (Flag j ∷ ks) = prims_of ks
 
 -- how many records of contexts there are
 abbrev pub contexts_of : List Kept → ℕ
@@ -22,6 +24,7 @@ contexts_of [] = 0
 contexts_of (Context c t ∷ ks) = suc (contexts_of ks)
 contexts_of (Node judge step ∷ ks) = contexts_of ks
 contexts_of (Entry name j prim ∷ ks) = contexts_of ks
+contexts_of (Flag j ∷ ks) = contexts_of ks
 
 pub record AreTables (kept : List Kept) (judges : List Judge) (prims : List Bool) (contexts : ℕ) : Type 0 where
   pub judges_are : judges ≡ judges_of kept

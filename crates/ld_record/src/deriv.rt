@@ -1,9 +1,9 @@
 //! A derivation: its records in the order in which they were made.
 ghost use Rattle.std.specs.Prelude.{◌≡◌, ◌≤◌, ◌++◌, ◌∷◌, ◌<◌, [], List, length, slice_get, Some, IfOk, OnOk, OnErr};
 ghost use Rattle.ld_terms.specs.Item.{Item};
-ghost use Rattle.ld_terms.specs.Bank.{IsTermAt, tree_at};
+ghost use Rattle.ld_terms.specs.Bank.{tree_at};
 ghost use Rattle.ld_terms.specs.Tree.{◌▸◌};
-ghost use Rattle.ld_terms.specs.Known.{context_at, judgement_at, with_node, with_entry, with_context};
+ghost use Rattle.ld_terms.specs.Known.{context_at, judgement_at, with_node, with_entry, with_context, with_flag};
 
 use crate::record::{CtxId, Judge, JudgeId, Kept, Step};
 use fb_base::{NoMemory, Text};
@@ -35,7 +35,7 @@ impl Model for Deriv {
 }
 
 impl Deriv {
-    ghost use Rattle.ld_record.specs.Kept.{known_of, judgement_of, entry_by, IsSound, FitsContext, FitsNode, FitsEntry, Begins};
+    ghost use Rattle.ld_record.specs.Kept.{known_of, judgement_of, entry_by, IsSound, FitsContext, FitsNode, FitsEntry, FitsFlag, Begins};
     ghost use Rattle.ld_record.specs.Growth.{Knows, KnowsContext, IsNodeOf, Adds, over_first, LeadsOver};
 
     /// A derivation with no records.
@@ -145,6 +145,22 @@ impl Deriv {
             self.prims.pop();
             return Err(NoMemory);
         }
+        Ok(())
+    }
+
+    /// Notes a judgement as a flag, whose type is the judgement's term in the judgement's context. Nothing is judged by
+    /// it: it keeps in the derivation which flags a book has opened, in their order among the entries.
+    pub fn flag(&mut self, bank: &Bank, of_item: JudgeId) -> Result<(), NoMemory>
+        requires sound { IsSound bank.now self.old }
+        requires fits { FitsFlag (known_of bank.now self.old) of_item }
+        ensures known { OnOk result (known_of bank.now self.new
+            ≡ with_flag (known_of bank.now self.old) (judgement_at (known_of bank.now self.old) of_item.0)) }
+        ensures sound { IsSound bank.now self.new }
+        ensures kept { OnOk result (self.new ≡ self.old ++ Kept.Flag of_item ∷ []) }
+        ensures begins { Begins self.old self.new }
+        ensures err { OnErr result (self.new ≡ self.old) }
+    {
+        self.kept.push(Kept::Flag(of_item)).map_err(|_| NoMemory)?;
         Ok(())
     }
 

@@ -25,8 +25,12 @@ pub struct Judge {
 #[derive(Clone, Copy, Debug)]
 pub enum Step {
     Sort,
+    Var(JudgeId),
     Weak(JudgeId, JudgeId),
     Form(JudgeId, JudgeId),
+    Appl(JudgeId, JudgeId),
+    /// The body under the variable, and the product with its sort.
+    Abst(JudgeId, JudgeId),
     Def(JudgeId),
     DefPrim(JudgeId),
     /// An instance of an entry that has a body and no parameters.
@@ -43,6 +47,8 @@ pub enum Kept {
     Node(Judge, Step),
     /// An entry of a judgement, a primitive or not, under a name.
     Entry(Text, JudgeId, bool),
+    /// A flag, whose type is the judgement's term in the judgement's context.
+    Flag(JudgeId),
 }
 
 impl JudgeId {

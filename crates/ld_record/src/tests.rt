@@ -1,4 +1,4 @@
-//! A derivation of a product over a primitive `A : *`, record by record.
+//! Derivations over a primitive `A : *`, record by record: of a product, of an abstraction and its application, of a flag.
 ghost use Rattle.std.specs.Prelude.{◌≡◌, ◌<◌, ◌≤◌, [], ◌∷◌, length, IfOk, OnOk};
 ghost use Rattle.ld_terms.specs.Tree as tree;
 ghost use Rattle.ld_terms.specs.Tree.{◌▸◌};
@@ -167,6 +167,7 @@ fn formed(
         (record (over_first no_judgement 1) { context = tree.Nil ▸ tree.Const 0 tree.Nil; term = tree.Const 0 tree.Nil; type = tree.Star }) }
     ensures number { IfOk result (λ l. Knows (known_of bank.now deriv.new) l
         (record (over_first no_judgement 1) { term = tree.Pi (tree.Const 0 tree.Nil) (tree.Const 0 tree.Nil); type = tree.Star })) }
+    ensures adds { Adds (known_of bank.now deriv.old) (known_of bank.now deriv.new) }
     ensures sound { IsSound bank.now deriv.new }
 {
     let judge = Judge {
@@ -176,6 +177,146 @@ fn formed(
         of: star,
     };
     deriv.emit(bank, judge, Step::Form(j, k))
+}
+
+// The variable `x`, and `fun x : A . x`, and its application to the variable.
+fn identity_terms(bank: &mut Bank, a: TermId) -> Result<(TermId, TermId, TermId), TermFault>
+    requires { StandsFor bank.old a (tree.Const 0 tree.Nil) }
+    ensures variable { IfOk result (λ ts. StandsFor bank.new ts.0 (tree.Var 0)) }
+    ensures identity { IfOk result (λ ts. StandsFor bank.new ts.1 (tree.Lam (tree.Const 0 tree.Nil) (tree.Var 0))) }
+    ensures applied { IfOk result (λ ts. StandsFor bank.new ts.2 (tree.App (tree.Lam (tree.Const 0 tree.Nil) (tree.Var 0)) (tree.Var 0))) }
+    ensures kept { Extends bank.old bank.new }
+{
+    let x = bank.add(Node::Var(0))?;
+    let identity = bank.add(Node::Lam(a, x))?;
+    let applied = bank.add(Node::App(identity, x))?;
+    Ok((x, identity, applied))
+}
+
+// `x : A` in the context of the variable, which is that of `inner`.
+fn variable(
+    deriv: &mut Deriv,
+    bank: &Bank,
+    x: TermId,
+    a: TermId,
+    j: JudgeId,
+    inner: JudgeId,
+) -> Result<JudgeId, NoMemory>
+    requires sound { IsSound bank.now deriv.old }
+    requires there { length (known_of bank.now deriv.old).env ≡ 1 }
+    requires x { StandsFor bank.now x (tree.Var 0) }
+    requires a { StandsFor bank.now a (tree.Const 0 tree.Nil) }
+    requires typed { Knows (known_of bank.now deriv.old) j (record (over_first no_judgement 1) { term = tree.Const 0 tree.Nil; type = tree.Star }) }
+    requires weakened { Knows (known_of bank.now deriv.old) inner
+        (record (over_first no_judgement 1) { context = tree.Nil ▸ tree.Const 0 tree.Nil; term = tree.Const 0 tree.Nil; type = tree.Star }) }
+    ensures number { IfOk result (λ k. Knows (known_of bank.now deriv.new) k
+        (record (over_first no_judgement 1) { context = tree.Nil ▸ tree.Const 0 tree.Nil; term = tree.Var 0; type = tree.Const 0 tree.Nil })) }
+    ensures adds { Adds (known_of bank.now deriv.old) (known_of bank.now deriv.new) }
+    ensures sound { IsSound bank.now deriv.new }
+{
+    let ctx = deriv.judge(bank, inner).ctx;
+    let judge = Judge {
+        entries: 1,
+        ctx,
+        term: x,
+        of: a,
+    };
+    deriv.emit(bank, judge, Step::Var(j))
+}
+
+// `fun x : A . x : A -> A`.
+fn identity(
+    deriv: &mut Deriv,
+    bank: &Bank,
+    term: TermId,
+    product: TermId,
+    body: JudgeId,
+    formed: JudgeId,
+) -> Result<JudgeId, NoMemory>
+    requires sound { IsSound bank.now deriv.old }
+    requires there { length (known_of bank.now deriv.old).env ≡ 1 }
+    requires term { StandsFor bank.now term (tree.Lam (tree.Const 0 tree.Nil) (tree.Var 0)) }
+    requires product { StandsFor bank.now product (tree.Pi (tree.Const 0 tree.Nil) (tree.Const 0 tree.Nil)) }
+    requires body { Knows (known_of bank.now deriv.old) body
+        (record (over_first no_judgement 1) { context = tree.Nil ▸ tree.Const 0 tree.Nil; term = tree.Var 0; type = tree.Const 0 tree.Nil }) }
+    requires formed { Knows (known_of bank.now deriv.old) formed
+        (record (over_first no_judgement 1) { term = tree.Pi (tree.Const 0 tree.Nil) (tree.Const 0 tree.Nil); type = tree.Star }) }
+    ensures number { IfOk result (λ k. Knows (known_of bank.now deriv.new) k
+        (record (over_first no_judgement 1) { term = tree.Lam (tree.Const 0 tree.Nil) (tree.Var 0); type = tree.Pi (tree.Const 0 tree.Nil) (tree.Const 0 tree.Nil) })) }
+    ensures adds { Adds (known_of bank.now deriv.old) (known_of bank.now deriv.new) }
+    ensures sound { IsSound bank.now deriv.new }
+{
+    let judge = Judge {
+        entries: 1,
+        ctx: deriv.empty(),
+        term,
+        of: product,
+    };
+    deriv.emit(bank, judge, Step::Abst(body, formed))
+}
+
+// The same in the context of the variable, which is that of `body`.
+fn inner_identity(
+    deriv: &mut Deriv,
+    bank: &Bank,
+    body: JudgeId,
+    identity: JudgeId,
+    typed: JudgeId,
+) -> Result<JudgeId, NoMemory>
+    requires sound { IsSound bank.now deriv.old }
+    requires there { length (known_of bank.now deriv.old).env ≡ 1 }
+    requires body { Knows (known_of bank.now deriv.old) body
+        (record (over_first no_judgement 1) { context = tree.Nil ▸ tree.Const 0 tree.Nil; term = tree.Var 0; type = tree.Const 0 tree.Nil }) }
+    requires identity { Knows (known_of bank.now deriv.old) identity
+        (record (over_first no_judgement 1) { term = tree.Lam (tree.Const 0 tree.Nil) (tree.Var 0); type = tree.Pi (tree.Const 0 tree.Nil) (tree.Const 0 tree.Nil) }) }
+    requires typed { Knows (known_of bank.now deriv.old) typed (record (over_first no_judgement 1) { term = tree.Const 0 tree.Nil; type = tree.Star }) }
+    ensures number { IfOk result (λ k. Knows (known_of bank.now deriv.new) k
+        (record (over_first no_judgement 1) { context = tree.Nil ▸ tree.Const 0 tree.Nil; term = tree.Lam (tree.Const 0 tree.Nil) (tree.Var 0); type = tree.Pi (tree.Const 0 tree.Nil) (tree.Const 0 tree.Nil) })) }
+    ensures adds { Adds (known_of bank.now deriv.old) (known_of bank.now deriv.new) }
+    ensures sound { IsSound bank.now deriv.new }
+{
+    let judge = Judge {
+        ctx: deriv.judge(bank, body).ctx,
+        ..deriv.judge(bank, identity)
+    };
+    deriv.emit(bank, judge, Step::Weak(identity, typed))
+}
+
+// `(fun x : A . x) x : A`.
+fn applied(
+    deriv: &mut Deriv,
+    bank: &Bank,
+    term: TermId,
+    function: JudgeId,
+    argument: JudgeId,
+) -> Result<JudgeId, NoMemory>
+    requires sound { IsSound bank.now deriv.old }
+    requires there { length (known_of bank.now deriv.old).env ≡ 1 }
+    requires term { StandsFor bank.now term (tree.App (tree.Lam (tree.Const 0 tree.Nil) (tree.Var 0)) (tree.Var 0)) }
+    requires function { Knows (known_of bank.now deriv.old) function
+        (record (over_first no_judgement 1) { context = tree.Nil ▸ tree.Const 0 tree.Nil; term = tree.Lam (tree.Const 0 tree.Nil) (tree.Var 0); type = tree.Pi (tree.Const 0 tree.Nil) (tree.Const 0 tree.Nil) }) }
+    requires argument { Knows (known_of bank.now deriv.old) argument
+        (record (over_first no_judgement 1) { context = tree.Nil ▸ tree.Const 0 tree.Nil; term = tree.Var 0; type = tree.Const 0 tree.Nil }) }
+    ensures number { IfOk result (λ k. Knows (known_of bank.now deriv.new) k
+        (record (over_first no_judgement 1) { context = tree.Nil ▸ tree.Const 0 tree.Nil; term = tree.App (tree.Lam (tree.Const 0 tree.Nil) (tree.Var 0)) (tree.Var 0); type = tree.Const 0 tree.Nil })) }
+    ensures adds { Adds (known_of bank.now deriv.old) (known_of bank.now deriv.new) }
+    ensures sound { IsSound bank.now deriv.new }
+{
+    let judge = Judge {
+        term,
+        ..deriv.judge(bank, argument)
+    };
+    deriv.emit(bank, judge, Step::Appl(function, argument))
+}
+
+// A flag of the product.
+fn flagged(deriv: &mut Deriv, bank: &Bank, formed: JudgeId) -> Result<(), NoMemory>
+    requires sound { IsSound bank.now deriv.old }
+    requires there { length (known_of bank.now deriv.old).env ≡ 1 }
+    requires formed { Knows (known_of bank.now deriv.old) formed
+        (record (over_first no_judgement 1) { term = tree.Pi (tree.Const 0 tree.Nil) (tree.Const 0 tree.Nil); type = tree.Star }) }
+{
+    deriv.flag(bank, formed)
 }
 
 #[test]
@@ -210,5 +351,40 @@ fn keeps_a_product(rt: HostRuntime) -> Result<(), Fail> {
     assert_eq!(rt; (judge.entries, judge.ctx.number()), (1, 0));
     assert_eq!(rt; (judge.term, judge.of), (product, star));
     assert_eq!(rt; last.number(), 4);
+    Ok(())
+}
+
+#[test]
+fn keeps_an_application_and_a_flag(rt: HostRuntime) -> Result<(), Fail> {
+    let mut bank = Bank::new(rt.alloc());
+    let star = star(&mut bank)?;
+    let box_sort = box_sort(&mut bank)?;
+    let a = instance(&mut bank)?;
+    let product = product(&mut bank, a)?;
+    let (x, term, application) = identity_terms(&mut bank, a)?;
+    let name = Text::from_bytes(rt.alloc(), b"A")?;
+    let mut deriv = Deriv::new(rt.alloc());
+    let first = start(&mut deriv, &bank, star, box_sort)?;
+    let over = primitive(&mut deriv, &bank, name, first)?;
+    let type_of_a = typed(&mut deriv, &bank, a, star, over)?;
+    let inner = weakened(&mut deriv, &bank, a, star, type_of_a)?;
+    let formed = formed(&mut deriv, &bank, product, star, type_of_a, inner)?;
+    let body = variable(&mut deriv, &bank, x, a, type_of_a, inner)?;
+    let identity = identity(&mut deriv, &bank, term, product, body, formed)?;
+    let function = inner_identity(&mut deriv, &bank, body, identity, type_of_a)?;
+    applied(&mut deriv, &bank, application, function, body)?;
+    flagged(&mut deriv, &bank, formed)?;
+    assert_eq!(rt; deriv.count(), 12);
+    let wanted = [
+        "Node(Judge { entries: 1, ctx: CtxId(1), term: TermId(5), of: TermId(3) }, Var(JudgeId(2)))",
+        "Node(Judge { entries: 1, ctx: CtxId(0), term: TermId(6), of: TermId(4) }, Abst(JudgeId(5), JudgeId(4)))",
+        "Node(Judge { entries: 1, ctx: CtxId(1), term: TermId(6), of: TermId(4) }, Weak(JudgeId(6), JudgeId(2)))",
+        "Node(Judge { entries: 1, ctx: CtxId(1), term: TermId(7), of: TermId(3) }, Appl(JudgeId(7), JudgeId(5)))",
+        "Flag(JudgeId(4))",
+    ];
+    for (place, record) in wanted.iter().enumerate() {
+        let kept = format!(in rt.alloc(); "{:?}", deriv.kept(7 + place))?;
+        assert_eq!(rt; kept.as_str(), *record, "at {place}");
+    }
     Ok(())
 }

@@ -1,4 +1,4 @@
-use Rattle.std.proofs.Common.{◌≡◌, ◌<◌, ap, ◌∙◌, arith, length, refl, subst, Bool}
+use Rattle.std.proofs.Common.{◌<◌, ap, ◌∙◌, arith, length, refl, subst, Bool}
 use Rattle.ld_record.specs.Follows.{entry_at}
 use Rattle.ld_record.specs.Kept.{known_of}
 use Rattle.ld_record.specs.Tables.{prims_of}
