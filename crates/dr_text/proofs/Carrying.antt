@@ -14,19 +14,20 @@ use Rattle.ld_record.specs.declared.record.JudgeId.{JudgeId}
 use Rattle.ld_record.specs.declared.record.Judge.{Judge}
 use Rattle.ld_record.specs.declared.record.Step.{Step}
 use Rattle.ld_record.specs.declared.record.Kept.{Kept}
-use Rattle.ld_record.specs.declared.record.Kept.TheVariants.{Context, Node, Entry}
+use Rattle.ld_record.specs.declared.record.Kept.TheVariants.{Context, Node, Entry, Flag}
 use Rattle.ld_record.specs.Follows.{rule_of, Follows}
 use Rattle.ld_record.specs.Growth.{Knows}
 use Rattle.ld_record.specs.Kept.{with_kept, known_after, known_of, judgement_of, FitsNode, Fits, AreSound, IsSound}
 use Rattle.dr_text.specs.declared.terms.Terms.{Terms}
 use Rattle.dr_text.specs.declared.writer.Writer.{Writer}
-use Rattle.dr_text.specs.Named.{IsNamed}
+use Rattle.ld_terms.specs.Named.{IsNamed}
 use Rattle.dr_text.specs.Spelling.{header, record_bytes, records_bytes, spelling}
 use Rattle.dr_text.specs.Written.{Matches, Writes, Pushes, Numbers, Reached, WritesKept, HasTerms, HasNamedTerms, Carries, Appends, last_judgement, entry_record}
 use Rattle.dr_text.proofs.Records.{final-append, stand-append, records_bytes-append, writes_none, writes_then, writes_more}
 use Rattle.ld_record.proofs.Keeping.{known_after-push}
 use Rattle.ld_record.proofs.Rules.{follows_by, premises_there}
-use Rattle.dr_text.proofs.Named.{none_named, names_at}
+use Rattle.ld_record.proofs.Named.{none_named}
+use Rattle.dr_text.proofs.Named.{names_at}
 
 -- the numbers depend on the terms alone
 matches_by : (items : List Item) (terms : Terms) (s x : State) → x.terms ≡ s.terms → Matches items terms s → Matches items terms x
@@ -100,6 +101,11 @@ entry_written items terms before later name j true pushes s matches fits named =
 entry_written items terms before later name j false pushes s matches fits named =
     reached_last items s s terms before before later (Record.Entry name j.0) _ (writes_none s before) refl matches tt pushes fits.live fits.may refl refl
 
+pub flag_written : (items : List Item) (terms : Terms) (before later : List ℕ) (j : JudgeId)
+    → Pushes before later (Record.Flag j.0) → WritesKept items terms terms before later (Flag j)
+flag_written items terms before later j pushes s matches fits named =
+    reached_last items s s terms before before later (Record.Flag j.0) _ (writes_none s before) refl matches tt pushes fits.live fits.may refl refl
+
 -- a record meets its condition over those before it
 fits_at : (items : List Item) (known : Known) (ks : List Kept) (i : ℕ) (d : Kept) → AreSound items known ks → i < length ks
     → Fits items (known_after items known (take i ks)) (get_or ks i d)
@@ -117,6 +123,7 @@ pub has_terms : (items : List Item) (known : Known) (k : Kept) → Fits items kn
 has_terms items known (Context c t) h = h.term
 has_terms items known (Node judge rule) h = (h.numbers.term, h.numbers.of)
 has_terms items known (Entry name j prim) h = tt
+has_terms items known (Flag j) h = tt
 
 known_more : (items : List Item) (ks : List Kept) (i : ℕ) (k : Kept) → i < length ks → slice_get ks i ≡ Some k
     → known_of items (take (i + 1) ks) ≡ with_kept items (known_of items (take i ks)) k

@@ -1,139 +1,15 @@
--- A term in a record of a derivation names entries that are there, with as many arguments as parameters: by induction on
--- the records, since each rule makes its term and type of those of its premises and of types of entries.
-use Rattle.std.proofs.Common.{◌≡◌, ◌<◌, ℕ, zero, suc, true, false, List, [], ◌∷◌, ◌++◌, length, take, get_or, refl, ap, sym, ◌∙◌, subst, arith, inl, inr}
-use Rattle.std.proofs.lemmas.Bool.{cases_lt}
-use Rattle.std.proofs.lemmas.List.{get_or_append_left, get_or_at, length_push}
-use Rattle.ld_terms.specs.Tree.{Tree, Star, Box, Var, App, Lam, Pi, Const, Trees, Nil, ◌▸◌, count}
-use Rattle.ld_terms.specs.Put.{lift, lift_all}
-use Rattle.ld_terms.specs.Entry.{Env}
-use Rattle.ld_terms.specs.Entry as entry
+-- The terms of each record of a derivation name entries that are there, with as many arguments as parameters: each is the
+-- term or the type of a judgement.
+use Rattle.std.proofs.Common.{◌<◌, ℕ, zero, suc, List, [], ◌∷◌, length, take, get_or, subst, arith}
+use Rattle.ld_terms.specs.Tree.{Tree}
 use Rattle.ld_terms.specs.Item.{Item}
-use Rattle.ld_terms.specs.Known.{Known, nothing, Judgement, judgement_at, no_judgement, primitive_entry, with_node, with_entry}
-use Rattle.ld_terms.specs.Record.{params_at}
-use Rattle.ld_record.specs.declared.record.Step.{Step}
-use Rattle.ld_record.specs.declared.record.Step.TheVariants as step
+use Rattle.ld_terms.specs.Known.{Known}
+use Rattle.ld_terms.specs.Named.{IsNamed}
 use Rattle.ld_record.specs.declared.record.Kept.{Kept}
-use Rattle.ld_record.specs.declared.record.Kept.TheVariants.{Context, Node, Entry}
-use Rattle.ld_record.specs.Follows.{entry_at, Follows}
-use Rattle.ld_record.specs.Kept.{with_kept, known_after, judgement_of, entry_by, Fits, AreSound}
-use Rattle.dr_text.specs.Named.{IsNamed, AreNamed}
+use Rattle.ld_record.specs.declared.record.Kept.TheVariants.{Context, Node, Entry, Flag}
+use Rattle.ld_record.specs.Kept.{with_kept, known_after, judgement_of, Fits, AreSound}
+use Rattle.ld_record.proofs.Named.{AreAllNamed, named_by, kept_named}
 use Rattle.dr_text.specs.Written.{HasNamedTerms}
-
-params_later : (env : Env) (e : entry.Entry) (k : ℕ) → k < length env → params_at (env ++ e ∷ []) k ≡ params_at env k
-params_later env e k h = ap (λ (x : entry.Entry). count x.params) (get_or_append_left env (e ∷ []) (primitive_entry [] no_judgement) k h)
-
--- with one entry more
-mutual
-  named_later : (env : Env) (e : entry.Entry) (t : Tree) → IsNamed env t → IsNamed (env ++ e ∷ []) t
-  named_later env e Star h = tt
-  named_later env e Box h = tt
-  named_later env e (Var i) h = tt
-  named_later env e (App f u) h = (named_later env e f h.0, named_later env e u h.1)
-  named_later env e (Lam a m) h = (named_later env e a h.0, named_later env e m h.1)
-  named_later env e (Pi a b) h = (named_later env e a h.0, named_later env e b h.1)
-  named_later env e (Const k us) h = (omega (arith, length_push env e, h.0), h.1 ∙ sym (params_later env e k h.0), all_named_later env e us h.2)
-
-  all_named_later : (env : Env) (e : entry.Entry) (us : Trees) → AreNamed env us → AreNamed (env ++ e ∷ []) us
-  all_named_later env e Nil h = tt
-  all_named_later env e (us ▸ u) h = (all_named_later env e us h.0, named_later env e u h.1)
-
-count-lift : (us : Trees) (by from : ℕ) → count (lift_all us by from) ≡ count us
-count-lift Nil by from = refl
-count-lift (us ▸ u) by from = ap suc (count-lift us by from)
-
-mutual
-  named_lift : (env : Env) (t : Tree) (by from : ℕ) → IsNamed env t → IsNamed env (lift t by from)
-  named_lift env Star by from h = tt
-  named_lift env Box by from h = tt
-  named_lift env (Var i) by from h = tt
-  named_lift env (App f u) by from h = (named_lift env f by from h.0, named_lift env u by from h.1)
-  named_lift env (Lam a m) by from h = (named_lift env a by from h.0, named_lift env m by (suc from) h.1)
-  named_lift env (Pi a b) by from h = (named_lift env a by from h.0, named_lift env b by (suc from) h.1)
-  named_lift env (Const k us) by from h = (h.0, count-lift us by from ∙ h.1, all_named_lift env us by from h.2)
-
-  all_named_lift : (env : Env) (us : Trees) (by from : ℕ) → AreNamed env us → AreNamed env (lift_all us by from)
-  all_named_lift env Nil by from h = tt
-  all_named_lift env (us ▸ u) by from h = (all_named_lift env us by from h.0, named_lift env u by from h.1)
-
--- the term and the type of a judgement
-abbrev IsNamedJudgement : Env → Judgement → Type 0
-IsNamedJudgement env j = IsNamed env j.term × IsNamed env j.type
-
-pub record AreAllNamed (known : Known) : Type 0 where
-  pub judgements : (n : ℕ) → n < length known.nodes → IsNamedJudgement known.env (judgement_at known n)
-  pub types : (k : ℕ) → k < length known.env → IsNamed known.env (entry_at known.env k).type
-
-instance_named : (known : Known) (s : Judgement) (k : ℕ) → AreAllNamed known → k < length known.env → (entry_at known.env k).params ≡ Nil
-    → s.term ≡ Const k Nil → s.type ≡ (entry_at known.env k).type → IsNamedJudgement known.env s
-instance_named known s k all there none term type =
-    let N : Tree → Type 0 = λ t. IsNamed known.env t in
-    (subst N (sym term) (there, ap count (sym none), tt), subst N (sym type) (all.types k there))
-
-same_named : (known : Known) (s : Judgement) (n m : ℕ) → AreAllNamed known → n < length known.nodes → s ≡ record (judgement_at known n) { entries = m }
-    → IsNamedJudgement known.env s
-same_named known s n m all there is = let P : Judgement → Type 0 = λ j. IsNamedJudgement known.env j in subst P (sym is) (all.judgements n there)
-
--- what follows from named judgements is named
-named_by : (known : Known) (s : Judgement) (rule : Step) → AreAllNamed known → Follows known s rule → IsNamedJudgement known.env s
-named_by known s step.Sort all h =
-    let N : Tree → Type 0 = λ t. IsNamed known.env t in (subst N (sym h.term) tt, subst N (sym h.type) tt)
-named_by known s (step.Weak n m) all h =
-    let N : Tree → Type 0 = λ t. IsNamed known.env t in
-    let a = all.judgements n.0 h.first.live in
-    (subst N (sym h.term) (named_lift known.env (judgement_at known n.0).term 1 0 a.0), subst N (sym h.type) (named_lift known.env (judgement_at known n.0).type 1 0 a.1))
-named_by known s (step.Form n m) all h =
-    let N : Tree → Type 0 = λ t. IsNamed known.env t in
-    let a = all.judgements n.0 h.first.live in
-    let b = all.judgements m.0 h.second.live in
-    (subst N (sym h.term) (a.0, b.0), subst N (sym h.type) b.1)
-named_by known s (step.Def n) all h = same_named known s n.0 _ all h.over.live h.over.same
-named_by known s (step.DefPrim n) all h = same_named known s n.0 _ all h.over.live h.over.same
-named_by known s (step.Inst n) all h =
-    instance_named known s h.instance.number all h.instance.there h.instance.params h.instance.term h.instance.type
-named_by known s (step.InstPrim n) all h =
-    instance_named known s h.instance.number all h.instance.there h.instance.params h.instance.term h.instance.type
-
-node_named : (known : Known) (s : Judgement) → AreAllNamed known → IsNamedJudgement known.env s → AreAllNamed (with_node known s)
-node_named known s all last = record {
-  judgements = λ n h. elim (cases_lt n (length known.nodes)) as (λ _. IsNamedJudgement known.env (get_or (known.nodes ++ s ∷ []) n no_judgement)) [
-    | inl below ↦
-        let P : Judgement → Type 0 = λ j. IsNamedJudgement known.env j in
-        subst P (sym (get_or_append_left known.nodes (s ∷ []) no_judgement n below)) (all.judgements n below)
-    | inr above ↦
-        let P : Judgement → Type 0 = λ j. IsNamedJudgement known.env j in
-        subst P (sym (get_or_at known.nodes s [] no_judgement n (omega (arith, length_push known.nodes s)))) last
-  ];
-  types = all.types;
-}
-
-entry_named : (known : Known) (e : entry.Entry) → AreAllNamed known → IsNamed known.env e.type → AreAllNamed (with_entry known e)
-entry_named known e all last = record {
-  judgements = λ n h. let old = all.judgements n h in (named_later known.env e (judgement_at known n).term old.0, named_later known.env e (judgement_at known n).type old.1);
-  types = λ k h. elim (cases_lt k (length known.env)) as (λ _. IsNamed (known.env ++ e ∷ []) (entry_at (known.env ++ e ∷ []) k).type) [
-    | inl below ↦
-        let P : entry.Entry → Type 0 = λ x. IsNamed (known.env ++ e ∷ []) x.type in
-        subst P (sym (get_or_append_left known.env (e ∷ []) (primitive_entry [] no_judgement) k below)) (named_later known.env e (entry_at known.env k).type (all.types k below))
-    | inr above ↦
-        let P : entry.Entry → Type 0 = λ x. IsNamed (known.env ++ e ∷ []) x.type in
-        subst P (sym (get_or_at known.env e [] (primitive_entry [] no_judgement) k (omega (arith, length_push known.env e)))) (named_later known.env e e.type last)
-  ];
-}
-
--- with one record more
-kept_named : (items : List Item) (known : Known) (k : Kept) → AreAllNamed known → Fits items known k → AreAllNamed (with_kept items known k)
-kept_named items known (Context c t) all fits = record { judgements = all.judgements; types = all.types }
-kept_named items known (Node judge rule) all fits =
-    node_named known (judgement_of items known judge) all (named_by known (judgement_of items known judge) rule all fits.follows)
-kept_named items known (Entry name j true) all fits = entry_named known (entry_by true name (judgement_at known j.0)) all (all.judgements j.0 fits.live).0
-kept_named items known (Entry name j false) all fits = entry_named known (entry_by false name (judgement_at known j.0)) all (all.judgements j.0 fits.live).1
-
-pub none_named : AreAllNamed nothing
-none_named = record { judgements = λ n h. absurd (omega arith); types = λ k h. absurd (omega arith) }
-
--- all judgements of a sound derivation, and all types of its entries
-pub all_named : (items : List Item) (known : Known) (ks : List Kept) → AreAllNamed known → AreSound items known ks → AreAllNamed (known_after items known ks)
-all_named items known [] all sound = all
-all_named items known (k ∷ ks) all sound = all_named items (with_kept items known k) ks (kept_named items known k all sound.0) sound.1
 
 -- the terms of one record
 record_named : (items : List Item) (known : Known) (k : Kept) → AreAllNamed known → Fits items known k → HasNamedTerms items known k
@@ -141,6 +17,7 @@ record_named items known (Context c t) all fits =
     let N : Tree → Type 0 = λ u. IsNamed known.env u in subst N fits.judged.term (all.judgements fits.judged.number fits.judged.live).0
 record_named items known (Node judge rule) all fits = named_by known (judgement_of items known judge) rule all fits.follows
 record_named items known (Entry name j prim) all fits = tt
+record_named items known (Flag j) all fits = tt
 
 -- the terms of each record, over what is known before it
 pub names_at : (items : List Item) (known : Known) (ks : List Kept) (i : ℕ) (d : Kept) → AreAllNamed known → AreSound items known ks → i < length ks → HasNamedTerms items (known_after items known (take i ks)) (get_or ks i d)

@@ -13,7 +13,7 @@ use Rattle.ld_terms.specs.Known.{Known, trees, extended}
 use Rattle.ld_terms.specs.Record.{Record, State, term_at, params_at, IsTerm, IsThere, Meets, IsNoEnd, after, final}
 use Rattle.ld_terms.specs.declared.bank.TermId.{TermId}
 use Rattle.dr_text.specs.declared.terms.Terms.{Terms}
-use Rattle.dr_text.specs.Named.{IsNamed}
+use Rattle.ld_terms.specs.Named.{IsNamed}
 use Rattle.dr_text.specs.Written.{number_in, IsNumberOf, Matches, Writes, AddsTerms, Pushes, JustWritten, Numbers, NumbersAll, WritesTerm}
 use Rattle.dr_text.proofs.Records.{writes_none, writes_then, writes_more, final-append}
 

@@ -39,10 +39,6 @@ pub numbers_bytes-push : (ns : List ℕ) (n : ℕ) → numbers_bytes (ns ++ n �
 numbers_bytes-push [] n = append-nil (number n)
 numbers_bytes-push (m ∷ ns) n = ap (λ bytes. number m ++ bytes) (numbers_bytes-push ns n) ∙ sym (append_assoc (number m) (numbers_bytes ns) (number n))
 
-pub numbers_bytes-append : (ns ms : List ℕ) → numbers_bytes (ns ++ ms) ≡ numbers_bytes ns ++ numbers_bytes ms
-numbers_bytes-append [] ms = refl
-numbers_bytes-append (n ∷ ns) ms = ap (λ bytes. number n ++ bytes) (numbers_bytes-append ns ms) ∙ sym (append_assoc (number n) (numbers_bytes ns) (numbers_bytes ms))
-
 pub pushed_more : (before so_far later : List ℕ) (ns : List ℕ) (i : ℕ) → i < length ns → so_far ≡ before ++ numbers_bytes (take i ns) → later ≡ so_far ++ number (get_or ns i 0)
     → later ≡ before ++ numbers_bytes (take (i + 1) ns)
 pushed_more before so_far later ns i below is more =
@@ -53,7 +49,3 @@ pushed_more before so_far later ns i below is more =
 pub each_fits : (ns : List ℕ) → ((i : ℕ) → Fits w64 (get_or ns i 0)) → AllByRecursion (λ n. n < 2 ^ 64) ns
 each_fits [] h = tt
 each_fits (n ∷ ns) h = (omega (arith, h 0), each_fits ns (λ i. h (suc i)))
-
-pub all-append : (P : ℕ → Type 0) (ns ms : List ℕ) → AllByRecursion P ns → AllByRecursion P ms → AllByRecursion P (ns ++ ms)
-all-append P [] ms h k = k
-all-append P (n ∷ ns) ms h k = (h.0, all-append P ns ms h.1 k)

@@ -1,5 +1,4 @@
 pub mod Number
 pub mod Spelling
 pub mod Derives
-pub mod Named
 pub mod Written

@@ -48,8 +48,11 @@ fn step_tag(step: &Step) -> u8
 {
     match step {
         Step::Sort => 0x30,
+        Step::Var(_) => 0x31,
         Step::Weak(..) => 0x32,
         Step::Form(..) => 0x33,
+        Step::Appl(..) => 0x34,
+        Step::Abst(..) => 0x35,
         Step::Def(_) => 0x37,
         Step::DefPrim(_) => 0x38,
         Step::Inst(_) => 0x39,
@@ -64,8 +67,10 @@ fn push_premises(step: &Step, out: &mut Vec<u8>) -> Result<(), NoMemory>
 {
     match step {
         Step::Sort => Ok(()),
-        Step::Weak(n, m) | Step::Form(n, m) => push_numbers(&[n.number(), m.number()], out),
-        Step::Def(n) | Step::DefPrim(n) => push_numbers(&[n.number()], out),
+        Step::Weak(n, m) | Step::Form(n, m) | Step::Appl(n, m) | Step::Abst(n, m) => {
+            push_numbers(&[n.number(), m.number()], out)
+        }
+        Step::Var(n) | Step::Def(n) | Step::DefPrim(n) => push_numbers(&[n.number()], out),
         Step::Inst(n) | Step::InstPrim(n) => push_numbers(&[n.number(), 0], out),
     }
 }
@@ -92,4 +97,11 @@ fn entry_tag(prim: bool) -> u8
     ensures { (name : List ℕ) (n : ℕ) → result ≡ tag (entry_record prim name n) }
 {
     if prim { 0x41 } else { 0x40 }
+}
+
+/// Appends a flag.
+pub fn push_flag(j: &JudgeId, out: &mut Vec<u8>) -> Result<(), NoMemory>
+    ensures { OnOk result (Pushes out.old.items out.new.items (Record.Flag j.now.0)) }
+{
+    push_record(0x50, &[j.number()], out)
 }

@@ -1,5 +1,5 @@
 //! The terms of a derivation file, by their numbers there.
-ghost use Rattle.std.specs.Prelude.{◌≡◌, ◌≢◌, ◌<◌, ◌∷◌, ◌++◌, ℕ, suc, [], length, slice_index_or, Some, None, IfOk, OnOk};
+ghost use Rattle.std.specs.Prelude.{◌≡◌, ◌≢◌, ◌<◌, ◌∷◌, ℕ, suc, [], length, slice_index_or, Some, None, IfOk, OnOk};
 ghost use Rattle.ld_terms.specs.Item.{IsOne, IsSmall, tree};
 ghost use Rattle.ld_terms.specs.Tree.{Nil, ◌▸◌};
 ghost use Rattle.ld_terms.specs.Bank.{tree_at, list_at, item_of, IsTermAt, IsListAt, HasParts};

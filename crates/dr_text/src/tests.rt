@@ -66,6 +66,17 @@ fn primitive(
     deriv.emit(bank, judge, Step::DefPrim(j))
 }
 
+// A flag of a variable of the type `*`.
+fn flagged(deriv: &mut Deriv, bank: &Bank, j: JudgeId) -> Result<(), NoMemory>
+    requires sound { IsSound bank.now deriv.old }
+    requires known { known_of bank.now deriv.old ≡ with_node nothing no_judgement }
+    requires number { j.0 ≡ 0 }
+    ensures number { OnOk result (Knows (known_of bank.now deriv.new) j (last_judgement (known_of bank.now deriv.new))) }
+    ensures sound { IsSound bank.now deriv.new }
+{
+    deriv.flag(bank, j)
+}
+
 // All that a writer writes of a derivation, with its end.
 fn written(alloc: Global, bank: &Bank, deriv: &Deriv, last: JudgeId) -> Result<Vec<u8>, Fail>
     requires sound { IsSound bank.now deriv.now }
@@ -101,6 +112,20 @@ fn writes_a_primitive(rt: HostRuntime) -> Result<(), Fail> {
     let out = written(rt.alloc(), &bank, &deriv, last)?;
     let wanted =
         b"LDDERIV1\x01\x02\x30\x00\x00\x00\x01\x41\x01A\x00\x38\x01\x00\x00\x01\x00\x60\x01";
+    assert_eq!(rt; out.as_slice(), wanted.as_slice());
+    Ok(())
+}
+
+#[test]
+fn writes_a_flag(rt: HostRuntime) -> Result<(), Fail> {
+    let mut bank = Bank::new(rt.alloc());
+    let star = bank.add(Node::Star)?;
+    let box_sort = bank.add(Node::Box_)?;
+    let mut deriv = Deriv::new(rt.alloc());
+    let first = start(&mut deriv, &bank, star, box_sort)?;
+    flagged(&mut deriv, &bank, first)?;
+    let out = written(rt.alloc(), &bank, &deriv, first)?;
+    let wanted = b"LDDERIV1\x01\x02\x30\x00\x00\x00\x01\x50\x00\x60\x00";
     assert_eq!(rt; out.as_slice(), wanted.as_slice());
     Ok(())
 }

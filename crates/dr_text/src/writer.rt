@@ -1,12 +1,12 @@
 //! The writer of a derivation file.
-ghost use Rattle.std.specs.Prelude.{◌≡◌, ◌≤◌, List, ℕ, [], length, IfSome, OnOk};
+ghost use Rattle.std.specs.Prelude.{◌≡◌, ◌≤◌, List, [], length, IfSome, OnOk};
 ghost use Rattle.ld_terms.specs.Item.{Item};
 ghost use Rattle.ld_record.specs.Kept.{IsSound, known_of};
 ghost use Rattle.ld_record.specs.Growth.{Knows};
 ghost use Rattle.dr_text.specs.Spelling.{header};
 ghost use Rattle.dr_text.specs.Written.{IsWritten, Appends, last_judgement, Carries, WritesKept, HasTerms};
 
-use crate::record::{push_entry, push_node, push_record};
+use crate::record::{push_entry, push_flag, push_node, push_record};
 use crate::terms::Terms;
 use fb_base::NoMemory;
 use ld_record::{Deriv, JudgeId, Kept};
@@ -31,7 +31,8 @@ impl Writer {
         }
     }
 
-    /// Appends the records since the last chunk, and with a judgement the end of the file.
+    /// Appends the records since the last chunk, and with a judgement the end of the file. After an error the writer is
+    /// not to be used again: its table may name terms that were not written.
     pub fn chunk(
         &mut self,
         bank: &Bank,
@@ -83,5 +84,6 @@ fn push_kept(terms: &mut Terms, bank: &Bank, kept: &Kept, out: &mut Vec<u8>) -> 
             push_node(judge, step, term, of, out)
         }
         Kept::Entry(name, j, prim) => push_entry(name, j, *prim, out),
+        Kept::Flag(j) => push_flag(j, out),
     }
 }

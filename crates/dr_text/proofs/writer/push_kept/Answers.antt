@@ -4,7 +4,7 @@ use Rattle.ld_terms.specs.Record.{Record}
 use Rattle.ld_record.specs.declared.record.Kept.{Kept}
 use Rattle.dr_text.specs.Written.{Pushes, WritesKept}
 use Rattle.dr_text.proofs.Records.{pushes_plain}
-use Rattle.dr_text.proofs.Carrying.{context_written, node_written, entry_written}
+use Rattle.dr_text.proofs.Carrying.{context_written, node_written, entry_written, flag_written}
 use Rattle.dr_text.proofs.writer.push_kept.Goals as goal
 
 pub returns-in_ok-t-in-Context : goal.returns-in_ok-t-in-Context
@@ -33,3 +33,10 @@ returns-in-Entry c =
     on_ok_weaker c.push_entry.result
     (λ pushes. subst P (sym c.in-Entry.is) (entry_written c.args.bank.now c.args.terms.now _ _ c.in-Entry.name c.in-Entry.j c.in-Entry.prim pushes))
     c.push_entry.ensures
+
+pub returns-in-Flag : goal.returns-in-Flag
+returns-in-Flag c =
+    let P : Kept → Type 0 = λ k. WritesKept c.args.bank.now c.args.terms.now c.args.terms.now c.args.out.now.items c.push_flag.new.out.items k in
+    on_ok_weaker c.push_flag.result
+    (λ pushes. subst P (sym c.in-Flag.is) (flag_written c.args.bank.now c.args.terms.now _ _ c.in-Flag.j pushes))
+    c.push_flag.ensures
