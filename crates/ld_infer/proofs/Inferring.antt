@@ -1,223 +1,177 @@
--- The rules for instances and products, from what the calls of a theory leave.
-use Rattle.std.proofs.Common.{◌≡◌, ◌<◌, ◌≤◌, ◌+◌, ◌-◌, ◌++◌, ◌∷◌, [], ℕ, suc, List, length, take, Option, Some, None, slice_get, refl, ap, sym, ◌∙◌, subst, arith, inl, inr, ◌⊎◌}
-use Rattle.std.proofs.lemmas.Option.{get_or_from_slice_get, slice_get_within}
-use Rattle.ld_terms.specs.Tree.{Tree, Trees, Star, Box, Var, App, Lam, Pi, Const, Nil, ◌▸◌, count}
-use Rattle.ld_terms.specs.Item.{Item, One, Many, tree, list}
-use Rattle.ld_terms.specs.Bank.{tree_at, list_at, item_at, item_of, IsTermAt, Extends}
-use Rattle.ld_terms.specs.declared.bank.Node.{Node}
-use Rattle.ld_terms.specs.declared.bank.Node.TheVariants as node
-use Rattle.ld_record.specs.declared.record.CtxId.{CtxId}
-use Rattle.ld_terms.proofs.Banks.{extends_trans}
-use Rattle.ld_terms.specs.Entry as named
-use Rattle.ld_terms.specs.Entry.{EntryAt, Defined, Primitive}
+-- The answers of a reading's rows, from the calls that they make in one standing after another.
+use Rattle.std.proofs.Common.{◌≡◌, ◌+◌, ℕ, false, List, Option, Some, None, refl, ap, sym, ◌∙◌, subst}
+use Rattle.std.specs.Prelude.{IfSome, is_some}
+use Rattle.ld_terms.specs.Tree.{Tree, Trees, Pi, Nil, ◌▸◌, count}
+use Rattle.ld_terms.specs.Item.{Item, One, IsSmall, IsOne, tree}
+use Rattle.ld_terms.specs.Put.{put}
+use Rattle.ld_terms.specs.Bank.{Holds, item_at, tree_at, IsTermAt}
+use Rattle.ld_terms.specs.Entry.{Env}
+use Rattle.ld_terms.specs.Tests.{is_box}
+use Rattle.ld_terms.specs.Named.{IsWellFormed}
 use Rattle.ld_terms.specs.Derivable.{IsSort}
-use Rattle.ld_terms.specs.Derivable as derivable
+use Rattle.ld_terms.specs.Known.{Judgement, judgement_at}
 use Rattle.ld_terms.specs.declared.bank.TermId.{TermId}
-use Rattle.ld_terms.specs.Known.{Known, Judgement, judgement_at, no_judgement, primitive_entry}
-use Rattle.ld_env.specs.declared.env.Entry.{Entry}
-use Rattle.ld_env.specs.Named.{Named, entries_of}
-use Rattle.ld_env.specs.Entries.{entry_of, env_of, body_of, AreLive}
-use Rattle.ld_env.proofs.CallerLemmas.{has_entry, live_entry}
+use Rattle.ld_terms.specs.declared.bank.TermFault.{TermFault}
+use Rattle.ld_terms.specs.declared.bank.TermFault.TheVariants as term
 use Rattle.ld_record.specs.declared.record.JudgeId.{JudgeId}
-use Rattle.ld_record.specs.declared.record.Step.{Step}
-use Rattle.ld_record.specs.declared.record.Step.TheVariants.{Inst, InstPrim}
-use Rattle.ld_record.specs.Follows.{entry_at, IsDefined, Instance, ByForm, Follows}
 use Rattle.ld_record.specs.Growth.{Knows}
-use Rattle.ld_infer.specs.declared.failure.RuleName.{RuleName}
-use Rattle.ld_infer.specs.declared.failure.RuleName.TheVariants.{Form}
-use Rattle.ld_infer.specs.declared.failure.PathStep.TheVariants.{Dom, Ran}
+use Rattle.ld_infer.specs.declared.failure.RuleName.TheVariants.{Abst, Appl}
 use Rattle.ld_infer.specs.declared.failure.InferFault.{InferFault}
 use Rattle.ld_infer.specs.declared.failure.InferFault.TheVariants as fault
 use Rattle.ld_infer.specs.declared.inference.Typed.{Typed}
-use Rattle.ld_infer.specs.Reading.{Answer, Gives, reading, sort_reading, as_sort, within, then, type_of}
-use Rattle.ld_infer.specs.Reading as answer
-use Rattle.ld_infer.specs.Standing.{Standing, known, env, context, here, Continues, Enters}
-use Rattle.ld_infer.specs.Theory.{HaveNoParameters}
-use Rattle.ld_infer.specs.Infers.{Stops, IsTyped, IsInstanceStep}
-use Rattle.ld_infer.proofs.Going.{continues_trans, continues_around, here_stays, term_stays, tree_stays, knows_stays}
+use Rattle.ld_infer.specs.declared.inference.FunctionTyped.{FunctionTyped}
+use Rattle.ld_infer.specs.Task.{Task, Gives}
+use Rattle.ld_infer.specs.Account.{Account, Comes}
+use Rattle.ld_infer.specs.Reading.{Refusal, found, Types, part_reading, again_unless, body_reading, function_reading, argument_reading, application_reading}
+use Rattle.ld_infer.specs.Standing.{Standing, known, env, here, Continues, KnowsSort}
+use Rattle.ld_infer.specs.Infers.{Stops, IsTyped, IsTypedAgain, IsBodyTyped, IsFunctionTyped, IsSuited, stop_of}
+use Rattle.ld_infer.proofs.Going.{continues_trans, here_stays, term_stays, tree_stays, knows_stays}
+use Rattle.ld_infer.proofs.Staying.{known_here, at_same}
+use Rattle.ld_infer.proofs.Sorts.{gives_now}
+use Rattle.ld_infer.proofs.Parting.{function_given, argument_given}
+use Rattle.ld_infer.proofs.Binding.{body_sort_stops, body_given}
+use Rattle.ld_infer.proofs.Applying.{application_stops_argument, application_stops_formed, application_given}
 
--- an instance of an entry without parameters follows
-instance_record : (b : Standing) (k : ℕ) (e : named.Entry) (star : JudgeId) → EntryAt (env b) k e → e.params ≡ Nil → k < length (env b) → Knows (known b) star (here b Star Box)
-    → Instance (known b) (here b (Const k Nil) e.type) star
-instance_record b k e star at params below knows =
-    let is : entry_at (env b) k ≡ e = get_or_from_slice_get (env b) k e (primitive_entry [] no_judgement) at in
+-- Functions and arguments.
+pub function_typed : (a b : Standing) (nest : ℕ) (f : TermId) (x : Typed) (dom ran : TermId) (w w' : Account) → IsTyped a b (Types (env a) a.context (nest + 1) (Appl, 1) (tree_at a.items f)) f w w' x
+    → IsTermAt b.items dom → IsTermAt b.items ran → tree_at b.items x.of ≡ Pi (tree_at b.items dom) (tree_at b.items ran)
+    → IsFunctionTyped a b (function_reading (env a) (part_reading nest (env a)) a.context (tree_at a.items f)) f w w' (record { judge = x.judge; domain = dom; range = ran })
+function_typed a b nest f x dom ran w w' h at_dom at_ran e =
+    let P : Tree → Type 0 = λ y. Knows (known b) x.judge (here a (tree_at a.items f) y) in
     record {
-      star = record { live = knows.live; entries = ap (λ (j : Judgement). j.entries) knows.is };
-      context = ap (λ (j : Judgement). j.context) knows.is;
-      star_term = ap (λ (j : Judgement). j.term) knows.is;
-      star_type = ap (λ (j : Judgement). j.type) knows.is;
-      number = k;
-      below = below;
-      there = below;
-      params = ap (λ (x : named.Entry). x.params) is ∙ params;
-      term = refl;
-      type = ap (λ (x : named.Entry). x.type) (sym is);
+      domain = at_dom;
+      range = at_ran;
+      gives = function_given (env a) (part_reading nest (env a)) a.context (tree_at a.items f) (tree_at b.items x.of) (tree_at b.items dom) (tree_at b.items ran) (is_some x.of_judge) w w' h.gives e;
+      judged = subst P e h.judged;
     }
 
-instance_follows : (b : Standing) (items : List Item) (k : ℕ) (e : named.Entry) (body : Option TermId) (star : JudgeId) (step : Step) → EntryAt (env b) k e → e.params ≡ Nil → k < length (env b)
-    → Knows (known b) star (here b Star Box) → e.body ≡ body_of items body → IsInstanceStep body star step → Follows (known b) (here b (Const k Nil) e.type) step
-unfolding instance_record
-instance_follows b items k e (Some x) star step at params below knows is by =
-    let P : Step → Type 0 = λ s. Follows (known b) (here b (Const k Nil) e.type) s in
-    let Q : named.Body → Type 0 = IsDefined in
-    let same : entry_at (env b) k ≡ e = get_or_from_slice_get (env b) k e (primitive_entry [] no_judgement) at in
-    subst P (sym by) (record { instance = instance_record b k e star at params below knows; body = subst Q (sym (ap (λ (x : named.Entry). x.body) same ∙ is)) tt })
-instance_follows b items k e None star step at params below knows is by =
-    let P : Step → Type 0 = λ s. Follows (known b) (here b (Const k Nil) e.type) s in
-    let same : entry_at (env b) k ≡ e = get_or_from_slice_get (env b) k e (primitive_entry [] no_judgement) at in
-    subst P (sym by) (record { instance = instance_record b k e star at params below knows; body = ap (λ (x : named.Entry). x.body) same ∙ is })
-
--- what `instance` finds: the entry, its type, and that the term is an instance without arguments
-pub record IsFound (a : Standing) (k : ℕ) (t : TermId) (entry : Entry) : Type 0 where
-  pub tree_entry : named.Entry
-  pub at : EntryAt (env a) k tree_entry
-  pub params : tree_entry.params ≡ Nil
-  pub body : tree_entry.body ≡ body_of a.items entry.body
-  pub type : tree_entry.type ≡ tree_at a.items entry.of
-  pub of : IsTermAt a.items entry.of
-  pub term : tree_at a.items t ≡ Const k Nil
-
-pub found : (a : Standing) (k : ℕ) (t us : TermId) (entry : Entry) → slice_get (entries_of a.entries) k ≡ Some entry → env_of a.items a.entries ≡ env a → AreLive a.items a.entries
-    → HaveNoParameters (env a) → k < length (env a) → tree_at a.items t ≡ Const k (list_at a.items us) → Many Nil ≡ item_at a.items us → IsFound a k t entry
-found a k t us entry at trees live plain within is none =
-    let h = has_entry a.items a.entries k entry at in
-    let e = entry_of a.items (record { name = h.name; entry = entry }) in
-    let P : named.Env → Type 0 = λ Δ. EntryAt Δ k e in
-    let there = subst P trees h.at in
-    let same : entry_at (env a) k ≡ e = get_or_from_slice_get (env a) k e (primitive_entry [] no_judgement) there in
+pub argument_typed : (a b : Standing) (nest : ℕ) (u wanted : TermId) (x : Typed) (w w' : Account) → IsTyped a b (Types (env a) a.context (nest + 1) (Appl, 2) (tree_at a.items u)) u w w' x
+    → tree_at b.items x.of ≡ tree_at a.items wanted → IsSuited a b (argument_reading (env a) (part_reading nest (env a)) a.context (tree_at a.items u) (tree_at a.items wanted)) u wanted w w' x.judge
+argument_typed a b nest u wanted x w w' h e =
+    let P : Tree → Type 0 = λ y. Knows (known b) x.judge (here a (tree_at a.items u) y) in
     record {
-      tree_entry = e;
-      at = there;
-      params = ap (λ (x : named.Entry). x.params) (sym same) ∙ plain k within;
-      body = refl;
-      type = refl;
-      of = (live_entry a.items a.entries k entry live at).type;
-      term = is ∙ ap (λ x. Const k (list x)) (sym none);
+      gives = argument_given (env a) (part_reading nest (env a)) a.context (tree_at a.items u) (tree_at b.items x.of) (tree_at a.items wanted) (is_some x.of_judge) w w' h.gives e;
+      judged = subst P e h.judged;
     }
 
--- the same, from what the calls for the bank and the environment give
-pub found_from : (a : Standing) (items : List Item) (entries : List Named) (k : ℕ) (t us : TermId) (entry : Entry) → items ≡ a.items → entries ≡ a.entries → slice_get (entries_of entries) k ≡ Some entry
-    → env_of a.items a.entries ≡ env a → AreLive a.items a.entries → HaveNoParameters (env a) → k < length (env a) → tree_at a.items t ≡ Const k (list_at a.items us) → Many Nil ≡ item_at items us → IsFound a k t entry
-found_from a items entries k t us entry items_are entries_are at trees live plain below is none =
-    let P : List Item → Type 0 = λ xs. Many Nil ≡ item_at xs us in
-    let Q : List Named → Type 0 = λ es. slice_get (entries_of es) k ≡ Some entry in
-    found a k t us entry (subst Q entries_are at) trees live plain below is (subst P items_are none)
+-- Applications: the standings are those at the start, behind the function, the argument, the type and the judgement.
+pub argument_moved : (a b : Standing) (nest : ℕ) (u : TermId) (dom : Tree) (P : Task Refusal (Unit {0}) → Type 0) → Continues a b → IsTermAt a.items u
+    → P (argument_reading (env b) (part_reading nest (env b)) b.context (tree_at b.items u) dom) → P (argument_reading (env a) (part_reading nest (env a)) a.context (tree_at a.items u) dom)
+argument_moved a b nest u dom P goes at h =
+    at_same (λ Δ ctx t. P (argument_reading Δ (part_reading nest Δ) ctx t dom)) goes.adds.env goes.context (tree_stays a b u goes at) h
 
-pub instance_ready : (a b : Standing) (k : ℕ) (t : TermId) (entry : Entry) (star : JudgeId) (step : Step) → IsFound a k t entry → IsTermAt a.items t → k < length (env a) → Continues a b
-    → Knows (known b) star (here a Star Box) → IsInstanceStep entry.body star step → Follows (known b) (here b (tree_at b.items t) (tree_at b.items entry.of)) step
-instance_ready a b k t entry star step found term within goes knows by =
-    let P : named.Env → Type 0 = λ Δ. EntryAt Δ k found.tree_entry in
-    let Q : Judgement → Type 0 = λ j. Knows (known b) star j in
-    let R : Tree → Type 0 = λ x. Follows (known b) (here b x (tree_at b.items entry.of)) step in
-    let S : Tree → Type 0 = λ y. Follows (known b) (here b (Const k Nil) y) step in
-    subst R (sym (tree_stays a b t goes term ∙ found.term))
-    (subst S (found.type ∙ sym (tree_stays a b entry.of goes found.of))
-    (instance_follows b a.items k found.tree_entry entry.body star step (subst P (sym goes.adds.env) found.at) found.params (omega (arith, within, ap length goes.adds.env))
-    (subst Q (sym (here_stays a b Star Box goes)) knows) found.body by))
+pub application_refused : (a b c : Standing) (nest : ℕ) (f u : TermId) (x : FunctionTyped) (g : InferFault) (w w1 w2 : Account) → Continues a b → IsTermAt a.items u
+    → IsFunctionTyped a b (function_reading (env a) (part_reading nest (env a)) a.context (tree_at a.items f)) f w w1 x
+    → Stops c.items (argument_reading (env b) (part_reading nest (env b)) b.context (tree_at b.items u) (tree_at b.items x.domain)) g w1 w2
+    → Stops c.items (application_reading (env a) (part_reading nest (env a)) a.context (tree_at a.items f) (tree_at a.items u)) g w w2
+application_refused a b c nest f u x g w w1 w2 goes at h s =
+    application_stops_argument (env a) (part_reading nest (env a)) a.context c.items (tree_at a.items f) (tree_at a.items u) (tree_at b.items x.domain) (tree_at b.items x.range) g w w1 w2 h.gives
+    (argument_moved a b nest u (tree_at b.items x.domain) (λ p. Stops c.items p g w1 w2) goes at s)
 
-pub instance_read : (a : Standing) (k d : ℕ) (rule : RuleName) (premise : ℕ) (t : TermId) (entry : Entry) → IsFound a k t entry
-    → reading (env a) d rule premise (tree_at a.items t) ≡ Gives (tree_at a.items entry.of)
-instance_read a k d rule premise t entry found =
-    ap (reading (env a) d rule premise) found.term ∙ ap type_of found.at ∙ ap Gives found.type
+pub application_high : (a b c d : Standing) (nest : ℕ) (f u : TermId) (x : FunctionTyped) (j : JudgeId) (y : TermFault) (g : InferFault) (w w1 w2 : Account)
+    → Continues a b → Continues b c → IsTermAt a.items u
+    → IsFunctionTyped a b (function_reading (env a) (part_reading nest (env a)) a.context (tree_at a.items f)) f w w1 x
+    → IsSuited b c (argument_reading (env b) (part_reading nest (env b)) b.context (tree_at b.items u) (tree_at b.items x.domain)) u x.domain w1 w2 j
+    → (y ≡ term.High → ¬ IsSmall (One (put (tree_at c.items x.range) (Nil ▸ tree_at c.items u)))) → g ≡ fault.Stop (stop_of y)
+    → Stops d.items (application_reading (env a) (part_reading nest (env a)) a.context (tree_at a.items f) (tree_at a.items u)) g w w2
+application_high a b c d nest f u x j y g w w1 w2 goes more at h s high e =
+    let P : Tree → Type 0 = λ r. y ≡ term.High → ¬ IsSmall (One (put r (Nil ▸ tree_at c.items u))) in
+    let Q : Tree → Type 0 = λ v. y ≡ term.High → ¬ IsSmall (One (put (tree_at b.items x.range) (Nil ▸ v))) in
+    application_stops_formed (env a) (part_reading nest (env a)) a.context d.items (tree_at a.items f) (tree_at a.items u) (tree_at b.items x.domain) (tree_at b.items x.range) y g w w1 w2 h.gives
+    (argument_moved a b nest u (tree_at b.items x.domain) (λ p. Comes p (Gives tt) w1 w2) goes at s.gives)
+    (subst Q (tree_stays a c u (continues_trans a b c goes more) at) (subst P (tree_stays b c x.range more h.range) high)) e
 
--- a judgement that was kept, of a term and a type as they were before
-pub typed_by : (a b c : Standing) (x : Answer) (t of : TermId) (judge : JudgeId) → Continues a b → Continues b c → IsTermAt a.items t → IsTermAt b.items of
-    → x ≡ Gives (tree_at b.items of) → Knows (known c) judge (here b (tree_at b.items t) (tree_at b.items of)) → IsTyped a c x t (record { of = of; judge = judge })
-typed_by a b c x t of judge goes more term type gives knows =
-    let P : Judgement → Type 0 = λ j. Knows (known c) judge j in
-    let Q : Tree → Type 0 = λ y. Knows (known c) judge (here a (tree_at a.items t) y) in
-    let R : Tree → Type 0 = λ y. Knows (known c) judge (here a y (tree_at b.items of)) in
+pub application_typed : (a b c d k : Standing) (nest : ℕ) (t f u : TermId) (x : FunctionTyped) (j : JudgeId) (of : TermId) (judge : JudgeId) (w w1 w2 : Account)
+    → Continues a b → Continues b c → Continues c d → Continues d k → IsTermAt a.items t → IsTermAt a.items u
+    → IsFunctionTyped a b (function_reading (env a) (part_reading nest (env a)) a.context (tree_at a.items f)) f w w1 x
+    → IsSuited b c (argument_reading (env b) (part_reading nest (env b)) b.context (tree_at b.items u) (tree_at b.items x.domain)) u x.domain w1 w2 j
+    → IsTermAt d.items of → tree_at d.items of ≡ put (tree_at c.items x.range) (Nil ▸ tree_at c.items u) → IsSmall (One (tree_at d.items of))
+    → Knows (known k) judge (here d (tree_at d.items t) (tree_at d.items of))
+    → IsTyped a k (application_reading (env a) (part_reading nest (env a)) a.context (tree_at a.items f) (tree_at a.items u)) t w w2 (record { of = of; judge = judge; of_judge = None })
+application_typed a b c d k nest t f u x j of judge w w1 w2 goes more next last at_t at_u h s at is small knows =
+    let to_c = continues_trans a b c goes more in
+    let to_d = continues_trans a c d to_c next in
+    let type = put (tree_at b.items x.range) (Nil ▸ tree_at a.items u) in
+    let same : tree_at k.items of ≡ type =
+    tree_stays d k of last at ∙ is ∙ ap (λ r. put r (Nil ▸ tree_at c.items u)) (tree_stays b c x.range more h.range)
+    ∙ ap (λ v. put (tree_at b.items x.range) (Nil ▸ v)) (tree_stays a c u to_c at_u) in
+    let P : Tree → Type 0 = λ y. Comes (application_reading (env a) (part_reading nest (env a)) a.context (tree_at a.items f) (tree_at a.items u)) (Gives (found y false)) w w2 in
+    let Q : Tree → Type 0 = λ y. IsSmall (One y) in
     record {
-      term = term_stays b c of more type;
-      gives = gives ∙ ap Gives (sym (tree_stays b c of more type));
-      judged = subst Q (sym (tree_stays b c of more type)) (subst R (tree_stays a b t goes term) (subst P (here_stays a b (tree_at b.items t) (tree_at b.items of) goes) knows));
+      term = term_stays d k of last at;
+      gives = subst P (sym same)
+          (application_given (env a) (part_reading nest (env a)) a.context (tree_at a.items f) (tree_at a.items u) (tree_at b.items x.domain) (tree_at b.items x.range) w w1 w2 h.gives
+          (argument_moved a b nest u (tree_at b.items x.domain) (λ p. Comes p (Gives tt) w1 w2) goes at_u s.gives) (subst Q (sym (tree_stays d k of last at) ∙ same) small));
+      judged = known_here a d k judge (tree_at d.items t) (tree_at a.items t) (tree_at d.items of) (tree_at k.items of) to_d (tree_stays a d t to_d at_t) (sym (tree_stays d k of last at)) knows;
+      sorted = tt;
     }
 
--- Products.
-
--- the standings while a product is read: the domain is read, a variable is put in, the range is read, the variable is taken away
-pub record IsAround (a b c e d : Standing) (x : TermId) : Type 0 where
-  pub domain : Continues a b
-  pub enters : Enters b c (tree_at b.items x)
-  pub range : Continues c e
-  pub leaves : d ≡ record e { contexts = take (length e.contexts - 1) e.contexts }
-
-pub around : (a b c e d : Standing) (x : TermId) → IsAround a b c e d x → Continues a d
-around a b c e d x h = continues_trans a b d h.domain (continues_around b c e d (tree_at b.items x) h.enters h.range h.leaves)
-
--- below the variable the environment is the same, and the context has one variable more
-pub inner_env : (a b c e d : Standing) (x : TermId) → IsAround a b c e d x → env c ≡ env a
-inner_env a b c e d x h = h.enters.adds.env ∙ h.domain.adds.env
-
-pub inner_tree : (a b c : Standing) (x y : TermId) → Continues a b → Enters b c (tree_at b.items x) → IsTermAt a.items y → tree_at c.items y ≡ tree_at a.items y
-inner_tree a b c x y goes enters at = ap tree ((extends_trans a.items b.items c.items goes.items enters.items).kept y at.live)
-
-pub inner_context : (a b c e d : Standing) (x : TermId) → IsAround a b c e d x → IsTermAt a.items x → context c ≡ context a ▸ tree_at a.items x
-inner_context a b c e d x h at =
-    h.enters.context_is ∙ ap (λ ctx. ctx ▸ tree_at b.items x) h.domain.context_is ∙ ap (λ y. context a ▸ y) (tree_stays a b x h.domain at)
-
-pub form_ready : (a b c e d : Standing) (t x y : TermId) (dom rng : Typed) → IsAround a b c e d x → IsTermAt a.items t → IsTermAt a.items x → IsTermAt a.items y
-    → tree_at a.items t ≡ Pi (tree_at a.items x) (tree_at a.items y)
-    → Knows (known b) dom.judge (here a (tree_at a.items x) (tree_at b.items dom.of)) → IsSort (tree_at b.items dom.of)
-    → Knows (known e) rng.judge (here c (tree_at c.items y) (tree_at e.items rng.of)) → IsSort (tree_at e.items rng.of)
-    → ByForm (known d) (here d (tree_at d.items t) (tree_at d.items rng.of)) dom.judge rng.judge
-form_ready a b c e d t x y dom rng h at ax ay is first sort1 second sort2 =
-    let goes = around a b c e d x h in
-    let left : Standing = record e { contexts = take (length e.contexts - 1) e.contexts } in
-    let same : d ≡ left = h.leaves in
-    let known_d : known d ≡ known e = ap known same in
-    let J : Judgement → Judgement → Type 0 = λ p q. p ≡ q in
-    let one : Knows (known e) dom.judge (here a (tree_at a.items x) (tree_at b.items dom.of)) =
-    knows_stays c e dom.judge _ h.range (enters_knows b c (tree_at b.items x) dom.judge _ h.enters first) in
-    let K1 = ap (λ (k : Known). judgement_at k dom.judge.0) known_d ∙ one.is in
-    let K2 = ap (λ (k : Known). judgement_at k rng.judge.0) known_d ∙ second.is in
+-- the sort that came with a type
+pub sort_come : (a : Standing) (nest : ℕ) (x : Typed) (j : JudgeId) (s : TermId) (w : Account) → x.of_judge ≡ Some j → IfSome x.of_judge (λ i. KnowsSort a i (tree_at a.items x.of))
+    → IsTermAt a.items s → tree_at a.items s ≡ (judgement_at (known a) j.0).type
+    → IsTypedAgain a a (again_unless (env a) (count a.context) (part_reading nest (env a) a.context) (is_some x.of_judge) (Abst, 2) (tree_at a.items x.of)) x.of w w (s, j)
+sort_come a nest x j s w is sorted at same =
+    let type = tree_at a.items x.of in
+    let P : Option JudgeId → Type 0 = λ o. IfSome o (λ i. KnowsSort a i type) in
+    let Q : Option JudgeId → Type 0 = λ o. Comes (again_unless (env a) (count a.context) (part_reading nest (env a) a.context) (is_some o) (Abst, 2) type) (Gives tt) w w in
+    let k = subst P is sorted in
+    let sort_is : tree_at a.items s ≡ k.sort = same ∙ ap (λ (i : Judgement). i.type) k.knows.is in
     let S : Tree → Type 0 = IsSort in
+    let J : Tree → Type 0 = λ y. Knows (known a) j (here a type y) in
+    record { has = record { term = at; sort = subst S (sym sort_is) k.is; judged = subst J (sym sort_is) k.knows }; gives = subst Q (sym is) (gives_now tt w) }
+
+-- a term that was formed
+pub held_term : (items : List Item) (t : TermId) (x : Tree) → Holds items t (One x) → IsTermAt items t
+held_term items t x h = let P : Item → Type 0 = IsOne in record { live = h.live; form = subst P (sym h.item) tt }
+
+pub held_small : (items : List Item) (t : TermId) (x : Tree) → Holds items t (One x) → IsSmall (item_at items t) → IsSmall (One (tree_at items t))
+held_small items t x h small = let P : Item → Type 0 = IsSmall in subst P (h.item ∙ sym (ap (λ i. One (tree i)) h.item)) small
+
+-- Bodies: the standings are those at the start, behind the body's type and behind its sort.
+pub body_typed : (a b c : Standing) (nest : ℕ) (m : TermId) (x : Typed) (s : TermId × JudgeId) (w w1 w2 : Account) (ctx : Trees) (y : Tree) → a.context ≡ ctx ▸ y → Continues a b → Continues b c
+    → IsTyped a b (Types (env a) a.context (nest + 1) (Abst, 1) (tree_at a.items m)) m w w1 x → is_box (tree_at b.items x.of) ≡ false
+    → IsTypedAgain b c (again_unless (env b) (count b.context) (part_reading nest (env b) b.context) (is_some x.of_judge) (Abst, 2) (tree_at b.items x.of)) x.of w1 w2 s
+    → IsBodyTyped a c (body_reading (env a) (part_reading nest (env a)) ctx y (tree_at a.items m)) m w w2 (record { of = x.of; judge = x.judge; sort = s })
+body_typed a b c nest m x s w w1 w2 ctx y inner goes more h other again =
+    let type = tree_at b.items x.of in
+    let same : tree_at c.items x.of ≡ type = tree_stays b c x.of more h.term in
+    let P : Trees → Type 0 = λ Γ. Comes (Types (env a) Γ (nest + 1) (Abst, 1) (tree_at a.items m)) (Gives (found type (is_some x.of_judge))) w w1 in
+    let Q : Env → Trees → Tree → Type 0 = λ Δ Γ z. Comes (again_unless Δ (count Γ) (part_reading nest Δ Γ) (is_some x.of_judge) (Abst, 2) z) (Gives tt) w1 w2 in
+    let R : Tree → Type 0 = λ z. Comes (body_reading (env a) (part_reading nest (env a)) ctx y (tree_at a.items m)) (Gives (found z (is_some x.of_judge))) w w2 in
+    let J : Tree → Type 0 = λ z. Knows (known c) x.judge (here a (tree_at a.items m) z) in
     record {
-      first = record { live = omega (arith, one.live, ap (λ (k : Known). length k.nodes) known_d); entries = ap (λ (j : Judgement). j.entries) K1 ∙ ap length (sym goes.adds.env) };
-      second = record { live = omega (arith, second.live, ap (λ (k : Known). length k.nodes) known_d); entries = ap (λ (j : Judgement). j.entries) K2 ∙ ap length (inner_env a b c e d x h ∙ sym goes.adds.env) };
-      outer = ap (λ (j : Judgement). j.context) K1 ∙ sym goes.context_is;
-      inner = ap (λ (j : Judgement). j.context) K2 ∙ inner_context a b c e d x h ax ∙ ap (λ ctx. ctx ▸ tree_at a.items x) (sym goes.context_is)
-          ∙ ap (λ z. context d ▸ z) (sym (ap (λ (j : Judgement). j.term) K1));
-      domain = subst S (sym (ap (λ (j : Judgement). j.type) K1)) sort1;
-      range = subst S (sym (ap (λ (j : Judgement). j.type) K2)) sort2;
-      term = tree_stays a d t goes at ∙ is ∙ ap (λ z. Pi z (tree_at a.items y)) (sym (ap (λ (j : Judgement). j.term) K1))
-          ∙ ap (Pi (judgement_at (known d) dom.judge.0).term) (sym (ap (λ (j : Judgement). j.term) K2 ∙ inner_tree a b c x y h.domain h.enters ay));
-      type = ap (λ (s : Standing). tree_at s.items rng.of) same ∙ sym (ap (λ (j : Judgement). j.type) K2);
+      term = term_stays b c x.of more h.term;
+      comes = is_some x.of_judge;
+      gives = subst R (sym same) (body_given (env a) (part_reading nest (env a)) ctx y (tree_at a.items m) type (is_some x.of_judge) w w1 w2 (subst P inner h.gives) other
+          (at_same Q goes.adds.env (goes.context ∙ inner) refl again.gives));
+      judged = subst J (sym same) (knows_stays b c x.judge _ more h.judged);
+      sorted = record {
+        term = again.has.term;
+        sort = again.has.sort;
+        judged = known_again b c s type (tree_at c.items x.of) more (sym same) again.has.judged;
+      };
     }
   where
-    enters_knows : (b c : Standing) (z : Tree) (j : JudgeId) (s : Judgement) → Enters b c z → Knows (known b) j s → Knows (known c) j s
-    enters_knows b c z j s h k = record { live = omega (arith, h.adds.nodes, k.live); is = h.adds.node j.0 k.live ∙ k.is }
+    known_again : (b c : Standing) (s : TermId × JudgeId) (t t' : Tree) → Continues b c → t ≡ t' → Knows (known c) s.1 (here b t (tree_at c.items s.0)) → Knows (known c) s.1 (here c t' (tree_at c.items s.0))
+    known_again b c s t t' more e k =
+        let P : Judgement → Type 0 = λ j. Knows (known c) s.1 j in
+        let Q : Tree → Type 0 = λ z. Knows (known c) s.1 (here c z (tree_at c.items s.0)) in
+        subst Q e (subst P (sym (here_stays b c t (tree_at c.items s.0) more)) k)
 
--- Readings of a product.
-pub stops_then : (items : List Item) (p q : Answer) (f : InferFault) → Stops items p f → Stops items (then p q) f
-stops_then items p q (fault.Refused r) h = ap (λ z. then z q) h
-stops_then items p q fault.NotBuilt h = ap (λ z. then z q) h
-stops_then items p q fault.Memory h = tt
+pub body_refused : (a b c : Standing) (nest : ℕ) (m : TermId) (x : Typed) (g : InferFault) (w w1 w2 : Account) (ctx : Trees) (y : Tree) → a.context ≡ ctx ▸ y → Continues a b
+    → IsTyped a b (Types (env a) a.context (nest + 1) (Abst, 1) (tree_at a.items m)) m w w1 x → is_box (tree_at b.items x.of) ≡ false
+    → Stops c.items (again_unless (env b) (count b.context) (part_reading nest (env b) b.context) (is_some x.of_judge) (Abst, 2) (tree_at b.items x.of)) g w1 w2
+    → Stops c.items (body_reading (env a) (part_reading nest (env a)) ctx y (tree_at a.items m)) g w w2
+body_refused a b c nest m x g w w1 w2 ctx y inner goes h other again =
+    let type = tree_at b.items x.of in
+    let P : Trees → Type 0 = λ Γ. Comes (Types (env a) Γ (nest + 1) (Abst, 1) (tree_at a.items m)) (Gives (found type (is_some x.of_judge))) w w1 in
+    let Q : Env → Trees → Tree → Type 0 = λ Δ Γ z. Stops c.items (again_unless Δ (count Γ) (part_reading nest Δ Γ) (is_some x.of_judge) (Abst, 2) z) g w1 w2 in
+    body_sort_stops (env a) (part_reading nest (env a)) ctx c.items y (tree_at a.items m) type (is_some x.of_judge) g w w1 w2 (subst P inner h.gives) other
+    (at_same Q goes.adds.env (goes.context ∙ inner) refl again)
 
-pub stops_by : (items : List Item) (p q : Answer) (f : InferFault) → p ≡ q → Stops items p f → Stops items q f
-stops_by items p q f e h = let P : Answer → Type 0 = λ x. Stops items x f in subst P e h
-
--- the range is read where the domain has a sort
-pub range_read : (Δ Δ' : named.Env) (d d' : ℕ) (rule : RuleName) (premise : ℕ) (t a b b' s : Tree) → t ≡ Pi a b → Δ' ≡ Δ → d' ≡ suc d → b' ≡ b → sort_reading Δ d Form 1 a ≡ Gives s
-    → reading Δ d rule premise t ≡ within Ran (sort_reading Δ' d' Form 2 b')
-range_read Δ Δ' d d' rule premise t a b b' s is env depth tree_is domain =
-    ap (reading Δ d rule premise) is
-    ∙ ap (λ z. then (within Dom z) (within Ran (sort_reading Δ (suc d) Form 2 b))) domain
-    ∙ ap (λ Γ. within Ran (sort_reading Γ (suc d) Form 2 b)) (sym env)
-    ∙ ap (λ n. within Ran (sort_reading Δ' n Form 2 b)) (sym depth)
-    ∙ ap (λ z. within Ran (sort_reading Δ' d' Form 2 z)) (sym tree_is)
-
-pub as_sort_of : (x : Answer) (t : Tree) → x ≡ Gives t → IsSort t → as_sort x ≡ Gives t
-as_sort_of x t e derivable.star = ap as_sort e
-as_sort_of x t e derivable.box = ap as_sort e
-
--- the standing without the last variable, from what `leave` says
-pub leaves_by : (e d : Standing) → d.contexts ≡ take (length e.contexts - 1) e.contexts → d ≡ record e { contexts = d.contexts } → d ≡ record e { contexts = take (length e.contexts - 1) e.contexts }
-leaves_by e d contexts rest =
-    let with_contexts : List CtxId → Standing = λ cs. record { items = e.items; kept = e.kept; entries = e.entries; contexts = cs } in
-    rest ∙ ap with_contexts contexts
-
--- a node that is a sort
-pub sort_node : (items : List Item) (n : Node) (t : TermId) → (n ≡ node.Star) ⊎ (n ≡ node.Box_) → item_of items n ≡ item_at items t → IsSort (tree_at items t)
-sort_node items n t (inl e) same = let P : Tree → Type 0 = IsSort in subst P (ap (λ x. tree (item_of items x)) (sym e) ∙ ap tree same) derivable.star
-sort_node items n t (inr e) same = let P : Tree → Type 0 = IsSort in subst P (ap (λ x. tree (item_of items x)) (sym e) ∙ ap tree same) derivable.box
+-- a type that was found is over the entries and variables that are there
+pub type_well_formed : (a b : Standing) (j : JudgeId) (t type : Tree) → Continues a b
+    → ((i : JudgeId) (x y : Tree) → Knows (known b) i (here b x y) → IsWellFormed (env b) (count b.context) x × IsWellFormed (env b) (count b.context) y)
+    → Knows (known b) j (here a t type) → IsWellFormed (env b) (count b.context) type
+type_well_formed a b j t type goes keeps k =
+    let P : Judgement → Type 0 = λ s. Knows (known b) j s in (keeps j t type (subst P (sym (here_stays a b t type goes)) k)).1

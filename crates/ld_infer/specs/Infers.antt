@@ -1,76 +1,160 @@
 -- What type inference answers.
-use Rattle.std.specs.Prelude.{◌≡◌, ◌<◌, ℕ, List, ⊤, Option, Some, None, Result, Ok, Err}
-use Rattle.ld_terms.specs.Tree.{Tree, Star, Box, Var, App, Lam, Pi, Const, Trees, Nil, ◌▸◌, count}
-use Rattle.ld_terms.specs.Item.{Item}
+use Rattle.std.specs.Prelude.{◌≡◌, ◌⊎◌, ℕ, Bool, List, ◌∷◌, ⊤, Option, Some, None, IfSome, is_some, Result, Ok, Err}
+use Rattle.ld_terms.specs.Tree.{Tree, Var, Pi, count}
+use Rattle.ld_terms.specs.Item.{Item, One, IsSmall}
 use Rattle.ld_terms.specs.Bank.{tree_at, IsTermAt}
 use Rattle.ld_terms.specs.Derivable.{IsSort}
+use Rattle.ld_terms.specs.Named.{IsWellFormed}
 use Rattle.ld_terms.specs.declared.bank.TermId.{TermId}
+use Rattle.ld_terms.specs.declared.bank.TermFault.{TermFault}
+use Rattle.ld_terms.specs.declared.bank.TermFault.TheVariants as term
 use Rattle.ld_record.specs.declared.record.JudgeId.{JudgeId}
 use Rattle.ld_record.specs.declared.record.Step.{Step}
 use Rattle.ld_record.specs.declared.record.Step.TheVariants.{Inst, InstPrim}
 use Rattle.ld_record.specs.Growth.{Knows}
-use Rattle.ld_infer.specs.declared.failure.RuleName.{RuleName}
-use Rattle.ld_infer.specs.declared.failure.RuleName.TheVariants.{Form}
-use Rattle.ld_infer.specs.declared.failure.PathStep.TheVariants.{Dom, Ran}
 use Rattle.ld_infer.specs.declared.failure.Why.{Why}
 use Rattle.ld_infer.specs.declared.failure.Why.TheVariants as why
 use Rattle.ld_infer.specs.declared.failure.Failure.{Failure}
 use Rattle.ld_infer.specs.declared.failure.InferFault.{InferFault}
 use Rattle.ld_infer.specs.declared.failure.InferFault.TheVariants as fault
+use Rattle.ld_infer.specs.declared.job.Stop.{Stop}
+use Rattle.ld_infer.specs.declared.job.Stop.TheVariants as stop
+use Rattle.ld_infer.specs.declared.failure.PathStep.{PathStep}
 use Rattle.ld_infer.specs.declared.inference.Typed.{Typed}
-use Rattle.ld_infer.specs.Reading.{Answer, Gives, Refuses, NotBuilt, Refusal, Reason, NoType, NotSame, reading, sort_reading, within, then}
-use Rattle.ld_infer.specs.Standing.{Standing, known, env, context, here}
+use Rattle.ld_infer.specs.declared.inference.BodyTyped.{BodyTyped}
+use Rattle.ld_infer.specs.declared.inference.FunctionTyped.{FunctionTyped}
+use Rattle.ld_infer.specs.declared.theory.VariableTyped.{VariableTyped}
+use Rattle.ld_infer.specs.Task.{Task, Gives, Fails, High, Nested, NotBuilt}
+use Rattle.ld_infer.specs.Account.{Account, Comes, RunsOut}
+use Rattle.ld_infer.specs.Reading.{Reason, NoType, NotSort, NotFunction, BoxBody, NotSame, Again, Refusal, Found, found, type_in}
+use Rattle.ld_infer.specs.Standing.{Standing, known, env, here, KnowsSort}
 
--- a term names only entries that are there, so many
-abbrev mutual
-  pub NamesEntries : ℕ → Tree → Type 0
-  NamesEntries n Star = ⊤
-  NamesEntries n Box = ⊤
-  NamesEntries n (Var i) = ⊤
-  NamesEntries n (App f u) = NamesEntries n f × NamesEntries n u
-  NamesEntries n (Lam a m) = NamesEntries n a × NamesEntries n m
-  NamesEntries n (Pi a b) = NamesEntries n a × NamesEntries n b
-  NamesEntries n (Const k us) = (k < n) × AllNameEntries n us
-
-  pub AllNameEntries : ℕ → Trees → Type 0
-  AllNameEntries n Nil = ⊤
-  AllNameEntries n (us ▸ u) = AllNameEntries n us × NamesEntries n u
+abbrev pub stop_of : TermFault → Stop
+stop_of term.High = stop.High
+stop_of term.Memory = stop.Memory
 
 -- a failure of the code, with its terms as trees
 abbrev pub reason_of : List Item → Why → Reason
 reason_of items why.NoType = NoType
-reason_of items (why.NotSame found wanted left right under) = NotSame (tree_at items found) (tree_at items wanted) (tree_at items left) (tree_at items right) under
+reason_of items (why.NotSort t) = NotSort (tree_at items t)
+reason_of items (why.NotFunction t) = NotFunction (tree_at items t)
+reason_of items why.BoxBody = BoxBody
+reason_of items (why.NotSame t wanted left right under) =
+    NotSame (tree_at items t) (tree_at items wanted) (record { left = tree_at items left; right = tree_at items right; under = under })
+reason_of items why.Again = Again
 
 abbrev pub refusal_of : List Item → Failure → Refusal
 refusal_of items f = record { rule = f.rule; premise = f.premise; path = f.path; depth = f.depth; reason = reason_of items f.why }
 
--- A fault is the answer of the reading; want of memory is free.
-abbrev pub Stops : List Item → Answer → InferFault → Type 0
-Stops items answer (fault.Refused f) = answer ≡ Refuses (refusal_of items f)
-Stops items answer fault.NotBuilt = answer ≡ NotBuilt
-Stops items answer fault.Memory = ⊤
+-- The task ends with what a fault says. Want of memory is free.
+abbrev pub StopsBy : {X : Type 0} → Task Refusal X → Stop → (before after : Account) → Type 0
+StopsBy p stop.Spent before after = RunsOut p before after
+StopsBy p stop.High before after = Comes p High before after
+StopsBy p stop.Nested before after = Comes p Nested before after
+StopsBy p stop.Memory before after = ⊤
 
--- A type was found, and the judgement of the term and the type is kept.
-pub record IsTyped (old new : Standing) (answer : Answer) (t : TermId) (r : Typed) : Type 0 where
+abbrev pub Stops : {X : Type 0} → List Item → Task Refusal X → InferFault → (before after : Account) → Type 0
+Stops items p (fault.Refused f) before after = Comes p (Fails (refusal_of items f)) before after
+Stops items p (fault.Stop s) before after = StopsBy p s before after
+Stops items p fault.NotBuilt before after = Comes p NotBuilt before after
+
+-- A type was found, and the judgement of the term and the type is kept; where the type's sort comes, its judgement too.
+pub record IsTyped (old new : Standing) (p : Task Refusal Found) (t : TermId) (before after : Account) (r : Typed) : Type 0 where
   pub term : IsTermAt new.items r.of
-  pub gives : answer ≡ Gives (tree_at new.items r.of)
+  pub gives : Comes p (Gives (found (tree_at new.items r.of) (is_some r.of_judge))) before after
   pub judged : Knows (known new) r.judge (here old (tree_at old.items t) (tree_at new.items r.of))
+  pub sorted : IfSome r.of_judge (λ j. KnowsSort new j (tree_at new.items r.of))
 
-abbrev pub TypedOr : (old new : Standing) → Answer → TermId → Result Typed InferFault → Type 0
-TypedOr old new answer t (Ok r) = IsTyped old new answer t r
-TypedOr old new answer t (Err f) = Stops new.items answer f
+-- what is answered for a term whose reading is the task
+abbrev pub Infers : (old new : Standing) → Task Refusal Found → TermId → (before after : Account) → Result Typed InferFault → Type 0
+Infers old new p t before after (Ok r) = IsTyped old new p t before after r
+Infers old new p t before after (Err f) = Stops new.items p f before after
 
--- the answer for a term, of a rule and a premise that ask
-abbrev pub Infers : (old new : Standing) → RuleName → (premise : ℕ) → TermId → Result Typed InferFault → Type 0
-Infers old new rule premise t result = TypedOr old new (reading (env old) (count (context old)) rule premise (tree_at old.items t)) t result
+-- a sort, with the judgement of the term and the sort
+pub record HasSort (old new : Standing) (t : Tree) (s : TermId × JudgeId) : Type 0 where
+  pub term : IsTermAt new.items s.0
+  pub sort : IsSort (tree_at new.items s.0)
+  pub judged : Knows (known new) s.1 (here old t (tree_at new.items s.0))
 
--- the same for a term's sort
-abbrev pub SortedOr : (old new : Standing) → Answer → TermId → Result Typed InferFault → Type 0
-SortedOr old new answer t (Ok r) = IsTyped old new answer t r × IsSort (tree_at new.items r.of)
-SortedOr old new answer t (Err f) = Stops new.items answer f
+-- the sort of the term is what the task gives
+pub record IsSorted (old new : Standing) (p : Task Refusal Tree) (t : TermId) (before after : Account) (s : TermId × JudgeId) : Type 0 where
+  pub has : HasSort old new (tree_at old.items t) s
+  pub gives : Comes p (Gives (tree_at new.items s.0)) before after
 
-abbrev pub InfersSort : (old new : Standing) → RuleName → (premise : ℕ) → TermId → Result Typed InferFault → Type 0
-InfersSort old new rule premise t result = SortedOr old new (sort_reading (env old) (count (context old)) rule premise (tree_at old.items t)) t result
+abbrev pub InfersSort : (old new : Standing) → Task Refusal Tree → TermId → (before after : Account) → Result (TermId × JudgeId) InferFault → Type 0
+InfersSort old new p t before after (Ok s) = IsSorted old new p t before after s
+InfersSort old new p t before after (Err f) = Stops new.items p f before after
+
+-- the term is typed again, and has a sort
+pub record IsTypedAgain (old new : Standing) (p : Task Refusal (Unit {0})) (t : TermId) (before after : Account) (s : TermId × JudgeId) : Type 0 where
+  pub has : HasSort old new (tree_at old.items t) s
+  pub gives : Comes p (Gives tt) before after
+
+abbrev pub TypesAgain : (old new : Standing) → Task Refusal (Unit {0}) → TermId → (before after : Account) → Result (TermId × JudgeId) InferFault → Type 0
+TypesAgain old new p t before after (Ok s) = IsTypedAgain old new p t before after s
+TypesAgain old new p t before after (Err f) = Stops new.items p f before after
+
+-- the type of an abstraction's body, which has a sort, in the context that has the variable
+pub record IsBodyTyped (old new : Standing) (p : Task Refusal Found) (m : TermId) (before after : Account) (r : BodyTyped) : Type 0 where
+  pub term : IsTermAt new.items r.of
+  pub comes : Bool
+  pub gives : Comes p (Gives (found (tree_at new.items r.of) comes)) before after
+  pub judged : Knows (known new) r.judge (here old (tree_at old.items m) (tree_at new.items r.of))
+  pub sorted : HasSort new new (tree_at new.items r.of) r.sort
+
+abbrev pub InfersBody : (old new : Standing) → Task Refusal Found → TermId → (before after : Account) → Result BodyTyped InferFault → Type 0
+InfersBody old new p m before after (Ok r) = IsBodyTyped old new p m before after r
+InfersBody old new p m before after (Err f) = Stops new.items p f before after
+
+-- the function's type is the product of a domain and a range
+pub record IsFunctionTyped (old new : Standing) (p : Task Refusal (Tree × Tree)) (f : TermId) (before after : Account) (r : FunctionTyped) : Type 0 where
+  pub domain : IsTermAt new.items r.domain
+  pub range : IsTermAt new.items r.range
+  pub gives : Comes p (Gives (tree_at new.items r.domain, tree_at new.items r.range)) before after
+  pub judged : Knows (known new) r.judge (here old (tree_at old.items f) (Pi (tree_at new.items r.domain) (tree_at new.items r.range)))
+
+abbrev pub InfersFunction : (old new : Standing) → Task Refusal (Tree × Tree) → TermId → (before after : Account) → Result FunctionTyped InferFault → Type 0
+InfersFunction old new p f before after (Ok r) = IsFunctionTyped old new p f before after r
+InfersFunction old new p f before after (Err e) = Stops new.items p e before after
+
+-- the term has the type that is wanted
+pub record IsSuited (old new : Standing) (p : Task Refusal (Unit {0})) (u wanted : TermId) (before after : Account) (j : JudgeId) : Type 0 where
+  pub gives : Comes p (Gives tt) before after
+  pub judged : Knows (known new) j (here old (tree_at old.items u) (tree_at old.items wanted))
+
+abbrev pub Suits : (old new : Standing) → Task Refusal (Unit {0}) → (u wanted : TermId) → (before after : Account) → Result JudgeId InferFault → Type 0
+Suits old new p u wanted before after (Ok j) = IsSuited old new p u wanted before after j
+Suits old new p u wanted before after (Err e) = Stops new.items p e before after
+
+-- the fault is this refusal
+abbrev pub IsRefusedBy : List Item → Refusal → InferFault → Type 0
+IsRefusedBy items r (fault.Refused f) = refusal_of items f ≡ r
+IsRefusedBy items r (fault.Stop s) = ⊥
+IsRefusedBy items r fault.NotBuilt = ⊥
+
+-- the fault of a type that is typed again: a refusal is told as this one
+abbrev pub IsToldAs : List Item → Refusal → (part whole : InferFault) → Type 0
+IsToldAs items r (fault.Refused f) whole = IsRefusedBy items r whole
+IsToldAs items r (fault.Stop s) whole = whole ≡ fault.Stop s
+IsToldAs items r fault.NotBuilt whole = whole ≡ fault.NotBuilt
+
+-- the fault of a part, told of the whole: the step stands in front of a refusal's path, unless memory runs out
+abbrev pub IsWithin : PathStep → (part whole : InferFault) → Type 0
+IsWithin step (fault.Refused f) whole = (whole ≡ fault.Refused (record f { path = step ∷ f.path })) ⊎ (whole ≡ fault.Stop stop.Memory)
+IsWithin step (fault.Stop s) whole = whole ≡ fault.Stop s
+IsWithin step fault.NotBuilt whole = whole ≡ fault.NotBuilt
+
+-- the type of a variable of the context, with a judgement of the variable and one of the type's sort
+pub record IsVariableTyped (old new : Standing) (i : ℕ) (v : VariableTyped) : Type 0 where
+  pub term : IsTermAt new.items v.of
+  pub type : type_in old.context i ≡ Some (tree_at new.items v.of)
+  pub small : IsSmall (One (tree_at new.items v.of))
+  pub judged : Knows (known new) v.judge (here old (Var i) (tree_at new.items v.of))
+  pub sorted : KnowsSort new v.sort (tree_at new.items v.of)
+
+-- a term that a reading is asked for, over the theory's entries and variables
+abbrev pub IsReadable : Standing → TermId → Type 0
+IsReadable s t = IsTermAt s.items t × IsWellFormed (env s) (count s.context) (tree_at s.items t)
 
 -- the rule for an instance of an entry that has a body, or of a primitive
 abbrev pub IsInstanceStep : Option TermId → JudgeId → Step → Type 0

@@ -1,13 +1,15 @@
 //! What a rule refuses, and where.
 ghost use Rattle.std.specs.Prelude.{◌≡◌, ◌∷◌, [], ◌<◌, length, slice_get, Some, OnOk, OnErr};
 
+use crate::job::Stop;
 use fb_base::NoMemory;
-use ld_terms::TermId;
+use ld_terms::{TermFault, TermId};
 use std::alloc::Global;
 use std::marker::Model;
 use thiserror::Error;
 
-/// A rule that can refuse.
+/// A rule that can refuse, by its name in the rule table (docs/calculus.md), which is after Nederpelt and Geuvers,
+/// *Type Theory and Formal Proof*, chapters 8 to 11.
 #[derive(Clone, Copy, Debug, PartialEq, Eq)]
 pub enum RuleName {
     Weak,
@@ -89,6 +91,16 @@ impl Path {
 pub enum Why {
     /// The part is `box`, which has no type.
     NoType,
+    /// The type found for the part is no sort.
+    NotSort {
+        found: TermId,
+    },
+    /// The type found for the part is no product.
+    NotFunction {
+        found: TermId,
+    },
+    /// The body of an abstraction has the type `box`.
+    BoxBody,
     /// The type found is not the one wanted. `left` and `right` are the parts of the two that differ, below
     /// so many further binders.
     NotSame {
@@ -98,6 +110,8 @@ pub enum Why {
         right: TermId,
         under: u32,
     },
+    /// A type that is typed again is refused.
+    Again,
 }
 
 /// A premise that fails: the rule that asks for it, the premise's number in the rule table, the path to the
@@ -111,25 +125,50 @@ pub struct Failure {
     pub why: Why,
 }
 
-/// Why a term has no type that is found.
+/// Why no type of a term is found.
 #[derive(Debug, Drop, Error)]
 pub enum InferFault {
     #[error("a rule refuses the term")]
     Refused(Failure),
+    #[error("the check stops")]
+    Stop(Stop),
+    /// A head form or a comparison is wanted, or an instance has arguments.
     #[error("the form is not built")]
     NotBuilt,
-    #[error("memory ran out")]
-    Memory,
+}
+
+impl From<Stop> for InferFault {
+    ghost use Rattle.std.specs.Prelude.{◌≡◌};
+    ghost use Rattle.ld_infer.specs.declared.failure.InferFault.TheVariants.{Stop};
+
+    ghost from_gives = { λ stop fault. fault ≡ Stop stop };
+
+    fn from(stop: Stop) -> Self {
+        InferFault::Stop(stop)
+    }
 }
 
 impl From<NoMemory> for InferFault {
     ghost use Rattle.std.specs.Prelude.{◌≡◌};
-    ghost use Rattle.ld_infer.specs.declared.failure.InferFault.TheVariants.{Memory};
+    ghost use Rattle.ld_infer.specs.declared.failure.InferFault.TheVariants.{Stop};
+    ghost use Rattle.ld_infer.specs.declared.job.Stop.TheVariants.{Memory};
 
-    ghost from_gives = { λ _ fault. fault ≡ Memory };
+    ghost from_gives = { λ _ fault. fault ≡ Stop Memory };
 
     fn from(_: NoMemory) -> Self {
-        InferFault::Memory
+        InferFault::Stop(Stop::Memory)
+    }
+}
+
+impl From<TermFault> for InferFault {
+    ghost use Rattle.std.specs.Prelude.{◌≡◌};
+    ghost use Rattle.ld_infer.specs.declared.failure.InferFault.TheVariants.{Stop};
+    ghost use Rattle.ld_infer.specs.Infers.{stop_of};
+
+    ghost from_gives = { λ fault f. f ≡ Stop (stop_of fault) };
+
+    fn from(fault: TermFault) -> Self {
+        InferFault::Stop(Stop::from(fault))
     }
 }
 

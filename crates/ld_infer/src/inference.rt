@@ -1,69 +1,152 @@
 //! The type of a term, by the form of the term.
-ghost use Rattle.std.specs.Prelude.{◌≡◌, ◌<◌, ◌+◌, ◌^◌, List, [], length};
-ghost use Rattle.ld_terms.specs.Tree.{Star, Pi, Const, count};
-ghost use Rattle.ld_terms.specs.Item.{Item, height_of};
-ghost use Rattle.ld_terms.specs.Bank.{tree_at, list_at, item_at, IsTermAt, IsListAt};
-ghost use Rattle.ld_infer.specs.Reading.{Answer};
-ghost use Rattle.ld_infer.specs.Reading as answer;
-ghost use Rattle.ld_infer.specs.Standing.{env, context, Continues};
-ghost use Rattle.ld_infer.specs.Infers.{NamesEntries, Infers, InfersSort, Stops, IsInstanceStep};
+ghost use Rattle.std.specs.Prelude.{◌≡◌, ◌<◌, ◌≤◌, ◌+◌, ◌-◌, ◌^◌, ℕ, List, false, is_some, slice_get, IfOk, IfSome};
+ghost use Rattle.ld_terms.specs.Tree.{Tree, Trees, Star, Box, Var, App, Lam, Pi, Const, ◌▸◌, count};
+ghost use Rattle.ld_terms.specs.Item.{Item, One, IsSmall};
+ghost use Rattle.ld_terms.specs.Bank.{tree_at, list_at, IsTermAt, IsListAt};
+ghost use Rattle.ld_terms.specs.Tests.{is_star};
+ghost use Rattle.ld_infer.specs.Account.{Account};
+ghost use Rattle.ld_infer.specs.Task.{gives};
+ghost use Rattle.ld_infer.specs.Reading.{Types, SortOf, part_reading, within as part, variable_reading, product_reading, abstraction_reading, body_reading, application_reading, function_reading, argument_reading, instance_reading, again, again_unless, type_in};
+ghost use Rattle.ld_infer.specs.Reading as reading;
+ghost use Rattle.ld_infer.specs.Standing.{env, Continues, KnowsSort};
+ghost use Rattle.ld_infer.specs.Infers.{Infers, InfersSort, TypesAgain, InfersBody, InfersFunction, Suits, IsReadable, IsInstanceStep, IsRefusedBy, IsToldAs, IsWithin, reason_of};
 ghost use Rattle.ld_infer.specs.declared.failure.RuleName.TheVariants as rule;
+ghost use Rattle.ld_infer.specs.declared.failure.PathStep.TheVariants.{Dom};
 
 use crate::failure::{Failure, InferFault, Path, PathStep, RuleName, Why};
+use crate::job::{Job, Stop};
 use crate::theory::Theory;
 use ld_record::{JudgeId, Step};
 use ld_terms::{Node, TermId};
 use std::alloc::Global;
 
-/// The type of a term, with a judgement of the term and its type over all entries.
+const GREATEST_NESTING: u32 = 1000;
+
+/// The type of a term, with a judgement of the term and its type, and where the type's sort came with it a judgement of
+/// the type and its sort. The judgements are in the theory's context, over all entries.
 #[derive(Clone, Copy, Debug)]
 pub struct Typed {
     pub of: TermId,
     pub judge: JudgeId,
+    pub of_judge: Option<JudgeId>,
 }
 
-/// The type of a term in the theory's context. `asked` is the rule and the number of the premise for which the
-/// type is wanted: they are reported where the term is `box`.
+// The type of an abstraction's body, with judgements of the body and its type and of the type and its sort, which is the
+// first of the pair.
+#[derive(Clone, Copy, Debug)]
+struct BodyTyped {
+    of: TermId,
+    judge: JudgeId,
+    sort: (TermId, JudgeId),
+}
+
+// The domain and the range of a function's type, with a judgement of the function and its type.
+#[derive(Clone, Copy, Debug)]
+struct FunctionTyped {
+    judge: JudgeId,
+    domain: TermId,
+    range: TermId,
+}
+
+/// The type of a term in the theory's context, by the rules for its form. `asked` is the rule and the number of the
+/// premise for which the type is wanted: they are reported where the term is `box`. `nest` is the nesting of this reading,
+/// 1 for a whole term; readings nested deeper than 1,000 are stopped. A fault is a premise of a rule that fails, a stop, or
+/// that a form isn't built: a function whose type is no product as it stands, an argument of another type, an instance
+/// with arguments.
 #[cycle(infer)]
 pub fn infer(
     alloc: Global,
     theory: &mut Theory,
     asked: (RuleName, u32),
     t: TermId,
+    nest: u32,
+    job: &mut Job,
 ) -> Result<Typed, InferFault>
-    requires term { IsTermAt theory.old.items t }
-    requires names { NamesEntries (length (env theory.old)) (tree_at theory.old.items t) }
-    requires room { count (context theory.old) + height_of (item_at theory.old.items t) < 2 ^ 32 }
-    ensures answer { Infers theory.old theory.new asked.0 asked.1 t result }
+    requires term { IsReadable theory.old t }
+    requires nest { nest ≤ 1001 }
+    requires room { count theory.old.context + 1001 < 2 ^ 32 + nest }
+    ensures answer { Infers theory.old theory.new (Types (env theory.old) theory.old.context nest asked (tree_at theory.old.items t)) t job.old job.new result }
     ensures continues { Continues theory.old theory.new }
+    ensures most { job.new.left ≤ job.old.left }
 {
+    if nest > GREATEST_NESTING {
+        return Err(InferFault::Stop(Stop::Nested));
+    }
     match theory.bank().node(t) {
         Node::Star => star(theory, t),
-        Node::Box_ => Err(no_type(alloc, theory, asked)),
-        Node::Pi(a, b) => product(alloc, theory, t, a, b),
+        Node::Box_ => Err(refusal(alloc, theory, asked, Why::NoType)),
+        Node::Var(i) => variable(theory, t, i),
+        Node::Pi(a, b) => product(alloc, theory, t, a, b, nest, job),
+        Node::Lam(a, m) => abstraction(alloc, theory, t, a, m, nest, job),
+        Node::App(f, u) => application(alloc, theory, t, f, u, nest, job),
         Node::Const(k, us) => instance(theory, t, k, us),
-        _ => Err(InferFault::NotBuilt),
+        Node::Nil | Node::Cons(..) => unreachable!(),
     }
 }
 
-/// The sort of a term, with a judgement of the term and the sort.
+/// The sort of a term, with a judgement of the term and the sort. It faults as [`infer`] does, and as a form that isn't
+/// built where the term's type isn't `*` or `box` as it stands.
 #[cycle(infer)]
 pub fn sort_of(
     alloc: Global,
     theory: &mut Theory,
     asked: (RuleName, u32),
     t: TermId,
-) -> Result<Typed, InferFault>
-    requires term { IsTermAt theory.old.items t }
-    requires names { NamesEntries (length (env theory.old)) (tree_at theory.old.items t) }
-    requires room { count (context theory.old) + height_of (item_at theory.old.items t) < 2 ^ 32 }
-    ensures answer { InfersSort theory.old theory.new asked.0 asked.1 t result }
+    nest: u32,
+    job: &mut Job,
+) -> Result<(TermId, JudgeId), InferFault>
+    requires term { IsReadable theory.old t }
+    requires nest { nest ≤ 1001 }
+    requires room { count theory.old.context + 1001 < 2 ^ 32 + nest }
+    ensures answer { InfersSort theory.old theory.new (SortOf (env theory.old) theory.old.context nest asked (tree_at theory.old.items t)) t job.old job.new result }
     ensures continues { Continues theory.old theory.new }
+    ensures most { job.new.left ≤ job.old.left }
 {
-    let typed = infer(alloc, theory, asked, t)?;
+    let typed = infer(alloc, theory, asked, t, nest, job)?;
     match theory.bank().node(typed.of) {
-        Node::Star | Node::Box_ => Ok(typed),
+        Node::Star | Node::Box_ => Ok((typed.of, typed.judge)),
         _ => Err(InferFault::NotBuilt),
+    }
+}
+
+// Types a type again: one step, and then its sort.
+#[cycle(infer)]
+fn type_again(
+    alloc: Global,
+    theory: &mut Theory,
+    asked: (RuleName, u32),
+    t: TermId,
+    nest: u32,
+    job: &mut Job,
+) -> Result<(TermId, JudgeId), InferFault>
+    requires term { IsReadable theory.old t }
+    requires nest { nest ≤ 1000 }
+    requires room { count theory.old.context + 1000 < 2 ^ 32 + nest }
+    ensures answer { TypesAgain theory.old theory.new
+        (again (env theory.old) (count theory.old.context) (part_reading nest (env theory.old) theory.old.context) asked (tree_at theory.old.items t)) t job.old job.new result }
+    ensures continues { Continues theory.old theory.new }
+    ensures most { job.new.left ≤ job.old.left }
+{
+    job.step()?;
+    match sort_of(alloc, theory, asked, t, nest + 1, job) {
+        Ok(sort) => Ok(sort),
+        Err(fault) => Err(refused_again(alloc, theory, asked, fault)),
+    }
+}
+
+// The fault of a type that is typed again: a refusal is told of the type itself.
+fn refused_again(
+    alloc: Global,
+    theory: &Theory,
+    asked: (RuleName, u32),
+    fault: InferFault,
+) -> InferFault
+    requires { count theory.now.context < 2 ^ 32 }
+    ensures { (items : List Item) → IsToldAs items (reading.refusal asked (count theory.now.context) reading.Again) fault result }
+{
+    match fault {
+        InferFault::Refused(_) => refusal(alloc, theory, asked, Why::Again),
+        other => other,
     }
 }
 
@@ -75,54 +158,314 @@ fn product(
     t: TermId,
     a: TermId,
     b: TermId,
+    nest: u32,
+    job: &mut Job,
 ) -> Result<Typed, InferFault>
-    requires term { IsTermAt theory.old.items t }
-    requires domain { IsTermAt theory.old.items a }
-    requires range { IsTermAt theory.old.items b }
+    requires term { IsReadable theory.old t }
+    requires parts { IsTermAt theory.old.items a × IsTermAt theory.old.items b }
     requires is { tree_at theory.old.items t ≡ Pi (tree_at theory.old.items a) (tree_at theory.old.items b) }
-    requires below { (a.0 < t.0) × (b.0 < t.0) }
-    requires names { NamesEntries (length (env theory.old)) (tree_at theory.old.items t) }
-    requires room { count (context theory.old) + height_of (item_at theory.old.items t) < 2 ^ 32 }
-    ensures answer { Infers theory.old theory.new rule.Form 1 t result }
+    requires nest { nest ≤ 1000 }
+    requires room { count theory.old.context + 1001 < 2 ^ 32 + nest }
+    ensures answer { Infers theory.old theory.new
+        (product_reading (env theory.old) (part_reading nest (env theory.old)) theory.old.context (tree_at theory.old.items a) (tree_at theory.old.items b)) t job.old job.new result }
     ensures continues { Continues theory.old theory.new }
+    ensures most { job.new.left ≤ job.old.left }
 {
-    let domain = match sort_of(alloc, theory, (RuleName::Form, 1), a) {
-        Ok(domain) => domain,
-        Err(fault) => return Err(within(PathStep::Dom, fault)),
-    };
-    theory.enter(a, domain.judge)?;
-    let range = sort_of(alloc, theory, (RuleName::Form, 2), b);
+    let domain = domain_sort(alloc, theory, RuleName::Form, a, nest, job)?;
+    theory.enter(a, domain.1)?;
+    let range = sort_of(alloc, theory, (RuleName::Form, 2), b, nest + 1, job);
     theory.leave();
     let range = match range {
         Ok(range) => range,
         Err(fault) => return Err(within(PathStep::Ran, fault)),
     };
-    let judge = theory.conclude(t, range.of, Step::Form(domain.judge, range.judge))?;
+    let judge = theory.conclude(t, range.0, Step::Form(domain.1, range.1))?;
+    let of_judge = sort_of_sort(theory, range.0)?;
     Ok(Typed {
-        of: range.of,
+        of: range.0,
         judge,
+        of_judge,
     })
+}
+
+// The sort of a domain, for which a rule asks as its first premise.
+#[cycle(infer)]
+fn domain_sort(
+    alloc: Global,
+    theory: &mut Theory,
+    rule: RuleName,
+    a: TermId,
+    nest: u32,
+    job: &mut Job,
+) -> Result<(TermId, JudgeId), InferFault>
+    requires term { IsReadable theory.old a }
+    requires nest { nest ≤ 1000 }
+    requires room { count theory.old.context + 1000 < 2 ^ 32 + nest }
+    ensures answer { InfersSort theory.old theory.new
+        (part Dom (SortOf (env theory.old) theory.old.context (nest + 1) (rule, 1) (tree_at theory.old.items a))) a job.old job.new result }
+    ensures continues { Continues theory.old theory.new }
+    ensures most { job.new.left ≤ job.old.left }
+{
+    match sort_of(alloc, theory, (rule, 1), a, nest + 1, job) {
+        Ok(domain) => Ok(domain),
+        Err(fault) => Err(within(PathStep::Dom, fault)),
+    }
+}
+
+// The judgement for the sort of a sort: `*` has one, `box` has none.
+fn sort_of_sort(theory: &mut Theory, sort: TermId) -> Result<Option<JudgeId>, InferFault>
+    requires term { IsTermAt theory.old.items sort }
+    ensures there { IfOk result (λ o. is_some o ≡ is_star (tree_at theory.old.items sort)) }
+    ensures sorted { IfOk result (λ o. IfSome o (λ j. KnowsSort theory.new j (tree_at theory.old.items sort))) }
+    ensures memory { (fault : InferFault) → result ≡ Err fault → fault ≡ InferFault.Stop Stop.Memory }
+    ensures continues { Continues theory.old theory.new }
+{
+    match theory.bank().node(sort) {
+        Node::Star => Ok(Some(theory.star_judgement()?)),
+        _ => Ok(None),
+    }
+}
+
+// The type of an abstraction is a product.
+#[cycle(infer)]
+fn abstraction(
+    alloc: Global,
+    theory: &mut Theory,
+    t: TermId,
+    a: TermId,
+    m: TermId,
+    nest: u32,
+    job: &mut Job,
+) -> Result<Typed, InferFault>
+    requires term { IsReadable theory.old t }
+    requires parts { IsTermAt theory.old.items a × IsTermAt theory.old.items m }
+    requires is { tree_at theory.old.items t ≡ Lam (tree_at theory.old.items a) (tree_at theory.old.items m) }
+    requires nest { nest ≤ 1000 }
+    requires room { count theory.old.context + 1001 < 2 ^ 32 + nest }
+    ensures answer { Infers theory.old theory.new
+        (abstraction_reading (env theory.old) (part_reading nest (env theory.old)) theory.old.context (tree_at theory.old.items a) (tree_at theory.old.items m)) t job.old job.new result }
+    ensures continues { Continues theory.old theory.new }
+    ensures most { job.new.left ≤ job.old.left }
+{
+    let domain = domain_sort(alloc, theory, RuleName::Abst, a, nest, job)?;
+    theory.enter(a, domain.1)?;
+    let body = body_type(alloc, theory, m, nest, job);
+    theory.leave();
+    let body = body?;
+    let of = theory.add(Node::Pi(a, body.of))?;
+    let formed = theory.conclude(of, body.sort.0, Step::Form(domain.1, body.sort.1))?;
+    let judge = theory.conclude(t, of, Step::Abst(body.judge, formed))?;
+    Ok(Typed {
+        of,
+        judge,
+        of_judge: Some(formed),
+    })
+}
+
+// The type of the body of an abstraction, and its sort, in the context that has the variable.
+#[cycle(infer)]
+fn body_type(
+    alloc: Global,
+    theory: &mut Theory,
+    m: TermId,
+    nest: u32,
+    job: &mut Job,
+) -> Result<BodyTyped, InferFault>
+    requires term { IsReadable theory.old m }
+    requires inner { 0 < count theory.old.context }
+    requires nest { nest ≤ 1000 }
+    requires room { count theory.old.context + 1000 < 2 ^ 32 + nest }
+    ensures answer { (ctx : Trees) (a : Tree) → theory.old.context ≡ ctx ▸ a → InfersBody theory.old theory.new
+        (body_reading (env theory.old) (part_reading nest (env theory.old)) ctx a (tree_at theory.old.items m)) m job.old job.new result }
+    ensures continues { Continues theory.old theory.new }
+    ensures most { job.new.left ≤ job.old.left }
+{
+    let typed = match infer(alloc, theory, (RuleName::Abst, 1), m, nest + 1, job) {
+        Ok(typed) => typed,
+        Err(fault) => return Err(within(PathStep::Body, fault)),
+    };
+    if let Node::Box_ = theory.bank().node(typed.of) {
+        return Err(box_body(alloc, theory));
+    }
+    theory.keeps_well_formed();
+    let sort = sort_of_type(alloc, theory, typed, nest, job)?;
+    Ok(BodyTyped {
+        of: typed.of,
+        judge: typed.judge,
+        sort,
+    })
+}
+
+// The sort of a body's type: the one that came with it, or else the type is typed again.
+#[cycle(infer)]
+fn sort_of_type(
+    alloc: Global,
+    theory: &mut Theory,
+    typed: Typed,
+    nest: u32,
+    job: &mut Job,
+) -> Result<(TermId, JudgeId), InferFault>
+    requires term { IsReadable theory.old typed.of }
+    requires sorted { IfSome typed.of_judge (λ j. KnowsSort theory.old j (tree_at theory.old.items typed.of)) }
+    requires nest { nest ≤ 1000 }
+    requires room { count theory.old.context + 1000 < 2 ^ 32 + nest }
+    ensures answer { TypesAgain theory.old theory.new
+        (again_unless (env theory.old) (count theory.old.context) (part_reading nest (env theory.old) theory.old.context) (is_some typed.of_judge) (rule.Abst, 2) (tree_at theory.old.items typed.of))
+        typed.of job.old job.new result }
+    ensures continues { Continues theory.old theory.new }
+    ensures most { job.new.left ≤ job.old.left }
+{
+    match typed.of_judge {
+        Some(j) => Ok((theory.type_of(j), j)),
+        None => type_again(alloc, theory, (RuleName::Abst, 2), typed.of, nest, job),
+    }
+}
+
+// The refusal of an abstraction whose body has the type box. The theory is in the context of the body.
+fn box_body(alloc: Global, theory: &Theory) -> InferFault
+    requires inner { 0 < count theory.now.context }
+    requires room { count theory.now.context < 2 ^ 32 }
+    ensures { (items : List Item) → IsRefusedBy items (reading.refusal (rule.Abst, 2) (count theory.now.context - 1) reading.BoxBody) result }
+{
+    InferFault::Refused(Failure {
+        rule: RuleName::Abst,
+        premise: 2,
+        path: Path::new(alloc),
+        depth: theory.depth() - 1,
+        why: Why::BoxBody,
+    })
+}
+
+// The type of an application is the range of its function's type, with the argument put in.
+#[cycle(infer)]
+fn application(
+    alloc: Global,
+    theory: &mut Theory,
+    t: TermId,
+    f: TermId,
+    u: TermId,
+    nest: u32,
+    job: &mut Job,
+) -> Result<Typed, InferFault>
+    requires term { IsReadable theory.old t }
+    requires parts { IsTermAt theory.old.items f × IsTermAt theory.old.items u }
+    requires is { tree_at theory.old.items t ≡ App (tree_at theory.old.items f) (tree_at theory.old.items u) }
+    requires nest { nest ≤ 1000 }
+    requires room { count theory.old.context + 1001 < 2 ^ 32 + nest }
+    ensures answer { Infers theory.old theory.new
+        (application_reading (env theory.old) (part_reading nest (env theory.old)) theory.old.context (tree_at theory.old.items f) (tree_at theory.old.items u)) t job.old job.new result }
+    ensures continues { Continues theory.old theory.new }
+    ensures most { job.new.left ≤ job.old.left }
+{
+    let function = function_type(alloc, theory, f, nest, job)?;
+    let argument = argument_judgement(alloc, theory, u, function.domain, nest, job)?;
+    let of = theory.instantiate(function.range, &[u])?;
+    let judge = theory.conclude(t, of, Step::Appl(function.judge, argument))?;
+    Ok(Typed {
+        of,
+        judge,
+        of_judge: None,
+    })
+}
+
+// The product that the function of an application has as its type.
+#[cycle(infer)]
+fn function_type(
+    alloc: Global,
+    theory: &mut Theory,
+    f: TermId,
+    nest: u32,
+    job: &mut Job,
+) -> Result<FunctionTyped, InferFault>
+    requires term { IsReadable theory.old f }
+    requires nest { nest ≤ 1000 }
+    requires room { count theory.old.context + 1000 < 2 ^ 32 + nest }
+    ensures answer { InfersFunction theory.old theory.new
+        (function_reading (env theory.old) (part_reading nest (env theory.old)) theory.old.context (tree_at theory.old.items f)) f job.old job.new result }
+    ensures continues { Continues theory.old theory.new }
+    ensures most { job.new.left ≤ job.old.left }
+{
+    let typed = match infer(alloc, theory, (RuleName::Appl, 1), f, nest + 1, job) {
+        Ok(typed) => typed,
+        Err(fault) => return Err(within(PathStep::Fun, fault)),
+    };
+    match theory.bank().node(typed.of) {
+        Node::Pi(domain, range) => Ok(FunctionTyped {
+            judge: typed.judge,
+            domain,
+            range,
+        }),
+        _ => Err(InferFault::NotBuilt),
+    }
+}
+
+// The judgement of an argument and the type that is wanted of it.
+#[cycle(infer)]
+fn argument_judgement(
+    alloc: Global,
+    theory: &mut Theory,
+    u: TermId,
+    wanted: TermId,
+    nest: u32,
+    job: &mut Job,
+) -> Result<JudgeId, InferFault>
+    requires term { IsReadable theory.old u }
+    requires wanted { IsTermAt theory.old.items wanted }
+    requires nest { nest ≤ 1000 }
+    requires room { count theory.old.context + 1000 < 2 ^ 32 + nest }
+    ensures answer { Suits theory.old theory.new
+        (argument_reading (env theory.old) (part_reading nest (env theory.old)) theory.old.context (tree_at theory.old.items u) (tree_at theory.old.items wanted)) u wanted job.old job.new result }
+    ensures continues { Continues theory.old theory.new }
+    ensures most { job.new.left ≤ job.old.left }
+{
+    let typed = match infer(alloc, theory, (RuleName::Appl, 2), u, nest + 1, job) {
+        Ok(typed) => typed,
+        Err(fault) => return Err(within(PathStep::Arg, fault)),
+    };
+    if theory.bank().same(typed.of, wanted) {
+        Ok(typed.judge)
+    } else {
+        Err(InferFault::NotBuilt)
+    }
 }
 
 // The sort `*` has the type `box`.
 fn star(theory: &mut Theory, t: TermId) -> Result<Typed, InferFault>
     requires term { IsTermAt theory.old.items t }
     requires is { tree_at theory.old.items t ≡ Star }
-    ensures answer { Infers theory.old theory.new rule.Form 1 t result }
+    ensures answer { (work : Account) → Infers theory.old theory.new (gives (reading.found Box false)) t work work result }
     ensures continues { Continues theory.old theory.new }
 {
     let judge = theory.star_judgement()?;
-    let of = theory.box_term();
-    Ok(Typed { of, judge })
+    Ok(Typed {
+        of: theory.box_term(),
+        judge,
+        of_judge: None,
+    })
 }
 
-// An instance of an entry without parameters has the entry's type.
+fn variable(theory: &mut Theory, t: TermId, i: u32) -> Result<Typed, InferFault>
+    requires term { IsReadable theory.old t }
+    requires is { tree_at theory.old.items t ≡ Var i }
+    ensures answer { (work : Account) → Infers theory.old theory.new (variable_reading (type_in theory.old.context i)) t work work result }
+    ensures continues { Continues theory.old theory.new }
+{
+    keeps_small(theory, t);
+    let variable = theory.variable(i)?;
+    Ok(Typed {
+        of: variable.of,
+        judge: variable.judge,
+        of_judge: Some(variable.sort),
+    })
+}
+
+// The type of an instance of an entry without parameters is the entry's type.
 fn instance(theory: &mut Theory, t: TermId, k: u32, us: TermId) -> Result<Typed, InferFault>
-    requires term { IsTermAt theory.old.items t }
+    requires term { IsReadable theory.old t }
     requires list { IsListAt theory.old.items us }
     requires is { tree_at theory.old.items t ≡ Const k (list_at theory.old.items us) }
-    requires there { k < length (env theory.old) }
-    ensures answer { Infers theory.old theory.new rule.Form 1 t result }
+    ensures answer { (work : Account) (nest : ℕ) → Infers theory.old theory.new
+        (instance_reading (env theory.old) (part_reading nest (env theory.old)) theory.old.context (slice_get (env theory.old) k) (list_at theory.old.items us)) t work work result }
     ensures continues { Continues theory.old theory.new }
 {
     let Node::Nil = theory.bank().node(us) else {
@@ -131,9 +474,22 @@ fn instance(theory: &mut Theory, t: TermId, k: u32, us: TermId) -> Result<Typed,
     let entry = theory.env().entry(k);
     let of = entry.of;
     let body = entry.body;
+    keeps_small(theory, of);
     let star = theory.star_judgement()?;
     let judge = theory.conclude(t, of, instance_step(body, star))?;
-    Ok(Typed { of, judge })
+    Ok(Typed {
+        of,
+        judge,
+        of_judge: None,
+    })
+}
+
+// A term of the bank is small: for the proofs of what is told of variables and of types of entries.
+fn keeps_small(theory: &Theory, t: TermId)
+    requires { IsTermAt theory.now.items t }
+    ensures { IsSmall (One (tree_at theory.now.items t)) }
+{
+    let _node = theory.bank().node(t);
 }
 
 // The rule for an instance of an entry with that body, or of a primitive where there is none.
@@ -146,28 +502,28 @@ fn instance_step(body: Option<TermId>, star: JudgeId) -> Step
     }
 }
 
-// The refusal of `box`, which has no type.
-fn no_type(alloc: Global, theory: &Theory, asked: (RuleName, u32)) -> InferFault
-    requires { count (context theory.now) < 2 ^ 32 }
-    ensures { (items : List Item) → Stops items (answer.Refuses (record { rule = asked.0; premise = asked.1; path = []; depth = count (context theory.now); reason = answer.NoType })) result }
+// A refusal of the term itself.
+fn refusal(alloc: Global, theory: &Theory, asked: (RuleName, u32), why: Why) -> InferFault
+    requires { count theory.now.context < 2 ^ 32 }
+    ensures { (items : List Item) → IsRefusedBy items (reading.refusal asked (count theory.now.context) (reason_of items why)) result }
 {
     InferFault::Refused(Failure {
         rule: asked.0,
         premise: asked.1,
         path: Path::new(alloc),
         depth: theory.depth(),
-        why: Why::NoType,
+        why,
     })
 }
 
 /// The fault of a part that stands at a step: the step goes in front of a refusal's path.
 pub fn within(step: PathStep, fault: InferFault) -> InferFault
-    ensures { (items : List Item) (a : Answer) → Stops items a fault → Stops items (answer.within step a) result }
+    ensures { IsWithin step fault result }
 {
     match fault {
         InferFault::Refused(mut failure) => match failure.path.within(step) {
             Ok(()) => InferFault::Refused(failure),
-            Err(_) => InferFault::Memory,
+            Err(_) => InferFault::Stop(Stop::Memory),
         },
         other => other,
     }

@@ -1,10 +1,15 @@
-//! A theory (an environment with its derivation), and type inference by the rules.
+//! A theory (an environment with its derivation), and type inference by the rules of the calculus of constructions with
+//! definitions (docs/calculus.md; Nederpelt and Geuvers, *Type Theory and Formal Proof*, chapters 8 to 11).
 #![tactic(auto)]
 
 mod failure;
 mod inference;
+mod job;
+#[cfg(test)]
+mod tests;
 mod theory;
 
 pub use failure::{Failure, InferFault, Path, PathStep, RuleName, Why};
 pub use inference::{Typed, infer, sort_of, within};
-pub use theory::Theory;
+pub use job::{Job, Stop};
+pub use theory::{Theory, VariableTyped};

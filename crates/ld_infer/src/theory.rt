@@ -1,8 +1,9 @@
 //! A theory: an environment with its derivation, and a context.
-ghost use Rattle.std.specs.Prelude.{◌≡◌, ◌<◌, ◌+◌, ◌-◌, ◌^◌, ◌++◌, ◌∷◌, [], List, length, take, IfOk, OnOk, OnErr};
-ghost use Rattle.ld_terms.specs.Tree.{Star, Box, Nil, ◌▸◌, count};
+ghost use Rattle.std.specs.Prelude.{◌≡◌, ◌≢◌, ◌<◌, ◌≤◌, ◌+◌, ◌-◌, ◌^◌, [], length, Some, IfOk, OnOk, OnErr};
+ghost use Rattle.ld_terms.specs.Tree.{Tree, Star, Box, Var, Nil, count};
 ghost use Rattle.ld_terms.specs.Bank.{tree_at, item_of, HasParts, IsTermAt, StandsFor, Holds};
 ghost use Rattle.ld_terms.specs.Known.{nothing, judgement_at, line_entry, primitive_entry, IsFree};
+ghost use Rattle.ld_terms.specs.Named.{IsWellFormed};
 ghost use Rattle.ld_env.specs.Entries.{entry_of, env_of, IsLiveEntry, AreLive};
 
 use fb_base::{NoMemory, Text};
@@ -12,11 +13,27 @@ use ld_terms::{Bank, Node, TermFault, TermId, Terms};
 use std::alloc::Global;
 use std::marker::Model;
 
-// A context, and a judgement for `* : box` in it.
+// A context, and a judgement for `* : box` in it, which may be over fewer entries than there are.
 #[derive(Clone, Copy, Debug)]
 struct Level {
     ctx: CtxId,
     star: JudgeId,
+}
+
+// A variable of the context: its type, and a judgement for a sort of the type in the context before it.
+#[derive(Clone, Copy, Debug)]
+struct Variable {
+    of: TermId,
+    sort: JudgeId,
+}
+
+/// The type of a variable, with a judgement of the variable and its type and one of the type and its sort, both in the
+/// context and over all entries.
+#[derive(Clone, Copy, Debug)]
+pub struct VariableTyped {
+    pub of: TermId,
+    pub judge: JudgeId,
+    pub sort: JudgeId,
 }
 
 /// An environment with a derivation of it, and a context that is legal over it.
@@ -29,37 +46,42 @@ pub struct Theory {
     box_: TermId,
     // one for each prefix of the context, the empty one first
     levels: Vec<Level>,
+    variables: Vec<Variable>,
 }
 
 impl Model for Theory {
     ghost use Rattle.std.specs.Coded.{codes};
     ghost use Rattle.ld_terms.specs.Item.{items_code};
-    ghost use Rattle.ld_infer.specs.Standing.{Standing, contexts_of};
-    ghost use Rattle.ld_infer.specs.Theory.{IsTheory};
+    ghost use Rattle.ld_terms.specs.TreeCode.{trees_code};
+    ghost use Rattle.ld_infer.specs.Standing.{Standing};
+    ghost use Rattle.ld_infer.specs.Theory.{IsTheory, context_of};
 
     ghost Value = { Standing };
 
-    ghost coded = { Prim.hlevel (codes, items_code) };
+    ghost coded = { Prim.hlevel (codes, items_code, trees_code) };
 
-    ghost view = { λ t. record { items = t.bank; kept = t.deriv; entries = t.env; contexts = contexts_of t.levels.items } };
+    ghost view = { λ t. record { items = t.bank; kept = t.deriv; entries = t.env; context = context_of t.bank t.variables.items } };
 
-    ghost invariant = { λ t. IsTheory t.bank t.deriv t.env t.star t.box_ t.levels.items };
+    ghost invariant = { λ t. IsTheory t.bank t.deriv t.env t.star t.box_ t.levels.items t.variables.items };
 }
 
 impl Theory {
-    ghost use Rattle.std.specs.Prelude.{◌↔◌};
-    ghost use Rattle.ld_terms.specs.Item.{IsSmall};
-    ghost use Rattle.ld_terms.specs.Bank.{item_at};
+    ghost use Rattle.std.specs.Prelude.{◌↔◌, All};
+    ghost use Rattle.ld_terms.specs.Item.{One, IsSmall};
+    ghost use Rattle.ld_terms.specs.Put.{lift, put};
+    ghost use Rattle.ld_terms.specs.Bank.{item_at, listed};
     ghost use Rattle.ld_record.specs.Kept.{IsSound, FitsEntry, entry_by};
     ghost use Rattle.ld_record.specs.Growth.{Knows, Adds};
     ghost use Rattle.ld_record.specs.Follows.{Follows};
-    ghost use Rattle.ld_infer.specs.Theory.{HaveNoParameters};
-    ghost use Rattle.ld_infer.specs.Standing.{Standing, known, env, context, here, Continues, KnowsSort, Enters, AddsEntry, Goes};
+    ghost use Rattle.ld_infer.specs.Reading.{type_in};
+    ghost use Rattle.ld_infer.specs.Infers.{IsVariableTyped};
+    ghost use Rattle.ld_infer.specs.Standing.{Standing, known, env, here, Continues, KnowsSort, Enters, AddsEntry, AddsFlag, Goes, without, without_last};
+    ghost use Rattle.ld_infer.specs.Variables.{judged_in, KnowsSortIn, EndsWith, IsTypeIn, IsTypedIn, IsHighIn};
 
     /// The empty environment and context.
     pub fn new(alloc: Global) -> Result<Theory, NoMemory>
         ensures known { IfOk result (λ theory. Adds nothing (known theory)) }
-        ensures context { IfOk result (λ theory. context theory ≡ Nil) }
+        ensures context { IfOk result (λ theory. theory.context ≡ Nil) }
         ensures entries { IfOk result (λ theory. theory.entries ≡ []) }
         ensures sound { IfOk result (λ theory. IsSound theory.items theory.kept) }
     {
@@ -87,6 +109,7 @@ impl Theory {
             star,
             box_,
             levels,
+            variables: Vec::new(alloc),
         })
     }
 
@@ -97,12 +120,11 @@ impl Theory {
         &self.bank
     }
 
-    /// The entries, by their names. None has parameters, since no flag is opened yet.
+    /// The entries, by their names.
     pub fn env(&self) -> &Env
         ensures entries { result.now ≡ self.now.entries }
         ensures trees { env_of self.now.items self.now.entries ≡ env self.now }
         ensures live { AreLive self.now.items self.now.entries }
-        ensures plain { HaveNoParameters (env self.now) }
     {
         &self.env
     }
@@ -133,12 +155,41 @@ impl Theory {
         self.bank.add(node)
     }
 
+    /// Puts arguments in for the innermost variables of a body, all at once.
+    pub fn instantiate(&mut self, body: TermId, args: &[TermId]) -> Result<TermId, TermFault>
+        requires body { IsTermAt self.old.items body }
+        requires args { All (IsTermAt self.old.items) args.now }
+        ensures tree { IfOk result (λ t. StandsFor self.new.items t (put (tree_at self.old.items body) (listed self.old.items Nil args.now))) }
+        ensures small { IfOk result (λ t. IsSmall (item_at self.new.items t)) }
+        ensures high { result ≡ Err TermFault.High → ¬ IsSmall (One (put (tree_at self.old.items body) (listed self.old.items Nil args.now))) }
+        ensures continues { Continues self.old self.new }
+    {
+        self.bank.instantiate(body, args)
+    }
+
     /// How many variables the context has.
     pub fn depth(&self) -> u32
-        requires { count (context self.now) < 2 ^ 32 }
-        ensures { result ≡ count (context self.now) }
+        requires { count self.now.context < 2 ^ 32 }
+        ensures { result ≡ count self.now.context }
     {
-        (self.levels.len() - 1) as u32
+        self.variables.len() as u32
+    }
+
+    /// The term that a judgement has as its type.
+    pub fn type_of(&self, j: JudgeId) -> TermId
+        requires { j.0 < length (known self.now).nodes }
+        ensures term { IsTermAt self.now.items result }
+        ensures is { tree_at self.now.items result ≡ (judgement_at (known self.now) j.0).type }
+    {
+        self.deriv.judge(&self.bank, j).of
+    }
+
+    // Terms and types of judgements are over the entries and variables that are there: for the proofs of what reads a type.
+    pub(crate) fn keeps_well_formed(&self)
+        ensures { (j : JudgeId) (t type : Tree) → Knows (known self.now) j (here self.now t type)
+            → IsWellFormed (env self.now) (count self.now.context) t × IsWellFormed (env self.now) (count self.now.context) type }
+    {
+        let _deriv = self.deriv();
     }
 
     /// The judgement `* : box` in the context, over all entries.
@@ -166,7 +217,26 @@ impl Theory {
         ensures number { IfOk result (λ j. Knows (known self.new) j (here self.old (tree_at self.old.items term) (tree_at self.old.items of))) }
         ensures continues { Continues self.old self.new }
     {
-        let level = self.levels[self.levels.len() - 1];
+        self.conclude_without(0, term, of, step)
+    }
+
+    // The same in the context without so many of its last variables.
+    fn conclude_without(
+        &mut self,
+        out: u32,
+        term: TermId,
+        of: TermId,
+        step: Step,
+    ) -> Result<JudgeId, NoMemory>
+        requires there { out ≤ count self.old.context }
+        requires term { IsTermAt self.old.items term }
+        requires of { IsTermAt self.old.items of }
+        requires follows { Follows (known self.old) (judged_in self.old (without out self.old.context) (tree_at self.old.items term) (tree_at self.old.items of)) step }
+        ensures number { IfOk result (λ j. Knows (known self.new) j
+            (judged_in self.old (without out self.old.context) (tree_at self.old.items term) (tree_at self.old.items of))) }
+        ensures continues { Continues self.old self.new }
+    {
+        let level = self.levels[self.variables.len() - out as usize];
         let judge = Judge {
             entries: self.env.len(),
             ctx: level.ctx,
@@ -174,6 +244,146 @@ impl Theory {
             of,
         };
         self.deriv.emit(&self.bank, judge, step)
+    }
+
+    /// The type of a variable of the context, by the rules for variables and weakening. Index 0 is the last variable.
+    pub fn variable(&mut self, i: u32) -> Result<VariableTyped, TermFault>
+        requires there { i < count self.old.context }
+        requires small { IsSmall (One (Var i)) }
+        ensures typed { IfOk result (λ v. IsVariableTyped self.old self.new i v) }
+        ensures high { result ≡ Err TermFault.High → IsHighIn self.old.context i }
+        ensures continues { Continues self.old self.new }
+    {
+        let mut typed = self.own_variable(i)?;
+        for index in 0..i {
+            typed = self.weaken_variable(i - 1 - index, index + 1, typed)?;
+        }
+        Ok(typed)
+    }
+
+    // The last variable of the context without so many, by the rule for variables.
+    fn own_variable(&mut self, out: u32) -> Result<VariableTyped, TermFault>
+        requires there { out < count self.old.context }
+        ensures typed { IfOk result (λ v. IsTypedIn self.new out 0 v) }
+        ensures high { result ≡ Err TermFault.High → IsHighIn (without out self.old.context) 0 }
+        ensures continues { Continues self.old self.new }
+    {
+        let Ok(last) = self.last_variable(out) else {
+            return Err(TermFault::Memory);
+        };
+        let lifted = self.lift_type(out, last, last)?;
+        self.type_variable(out, 0, lifted, Step::Var(last.sort))
+    }
+
+    // A variable that was typed in the context before the last one of those without so many, by the rule for weakening.
+    fn weaken_variable(
+        &mut self,
+        out: u32,
+        index: u32,
+        typed: VariableTyped,
+    ) -> Result<VariableTyped, TermFault>
+        requires there { out < count self.old.context }
+        requires some { 0 < index }
+        requires small { IsSmall (One (Var index)) }
+        requires typed { IsTypedIn self.old (out + 1) (index - 1) typed }
+        ensures typed { IfOk result (λ v. IsTypedIn self.new out index v) }
+        ensures high { result ≡ Err TermFault.High → IsHighIn (without out self.old.context) index }
+        ensures continues { Continues self.old self.new }
+    {
+        let Ok(last) = self.last_variable(out) else {
+            return Err(TermFault::Memory);
+        };
+        let inner = Variable {
+            of: typed.of,
+            sort: typed.sort,
+        };
+        let lifted = self.lift_type(out, inner, last)?;
+        self.type_variable(out, index, lifted, Step::Weak(typed.judge, last.sort))
+    }
+
+    // The last variable of the context without so many, with the judgement of its type over all entries.
+    fn last_variable(&mut self, out: u32) -> Result<Variable, NoMemory>
+        requires there { out < count self.old.context }
+        ensures ends { IfOk result (λ v. EndsWith self.new out v) }
+        ensures continues { Continues self.old self.new }
+    {
+        let place = self.variables.len() - 1 - out as usize;
+        let variable = self.variables[place];
+        let sort = self
+            .deriv
+            .lift_by_def(&self.bank, variable.sort, self.env.len())?;
+        let last = Variable {
+            of: variable.of,
+            sort,
+        };
+        self.variables[place] = last;
+        Ok(last)
+    }
+
+    // A type of the context before the variable `last`, which ends the one without so many, led into that one.
+    fn lift_type(
+        &mut self,
+        out: u32,
+        inner: Variable,
+        last: Variable,
+    ) -> Result<Variable, TermFault>
+        requires there { out < count self.old.context }
+        requires last { EndsWith self.old out last }
+        requires term { IsTermAt self.old.items inner.of }
+        requires sort { KnowsSortIn self.old (without (out + 1) self.old.context) inner.sort (tree_at self.old.items inner.of) }
+        ensures typed { IfOk result (λ v. IsTypeIn self.new out v) }
+        ensures lifted { IfOk result (λ v. tree_at self.new.items v.of ≡ lift (tree_at self.old.items inner.of) 1 0) }
+        ensures high { result ≡ Err TermFault.High → ¬ IsSmall (One (lift (tree_at self.old.items inner.of) 1 0)) }
+        ensures continues { Continues self.old self.new }
+    {
+        let of = self.lift(inner.of)?;
+        let sort_term = self.type_of(inner.sort);
+        let step = Step::Weak(inner.sort, last.sort);
+        let Ok(sort) = self.conclude_without(out, of, sort_term, step) else {
+            return Err(TermFault::Memory);
+        };
+        Ok(Variable { of, sort })
+    }
+
+    // A term, below one more variable.
+    fn lift(&mut self, t: TermId) -> Result<TermId, TermFault>
+        requires { IsTermAt self.old.items t }
+        ensures tree { IfOk result (λ r. StandsFor self.new.items r (lift (tree_at self.old.items t) 1 0)) }
+        ensures small { IfOk result (λ r. IsSmall (item_at self.new.items r)) }
+        ensures high { result ≡ Err TermFault.High → ¬ IsSmall (One (lift (tree_at self.old.items t) 1 0)) }
+        ensures continues { Continues self.old self.new }
+    {
+        // each term of a bank is small
+        let _height = self.bank.height(t);
+        self.bank.lift(t, 1, 0)
+    }
+
+    // Keeps that a variable has this type, in the context without so many.
+    fn type_variable(
+        &mut self,
+        out: u32,
+        index: u32,
+        of: Variable,
+        step: Step,
+    ) -> Result<VariableTyped, TermFault>
+        requires there { out < count self.old.context }
+        requires small { IsSmall (One (Var index)) }
+        requires of { IsTypeIn self.old out of }
+        requires found { type_in (without out self.old.context) index ≡ Some (tree_at self.old.items of.of) }
+        requires follows { Follows (known self.old) (judged_in self.old (without out self.old.context) (Var index) (tree_at self.old.items of.of)) step }
+        ensures typed { IfOk result (λ v. IsTypedIn self.new out index v) }
+        ensures high { result ≢ Err TermFault.High }
+        ensures continues { Continues self.old self.new }
+    {
+        let term = self.add(Node::Var(index))?;
+        let Ok(judge) = self.conclude_without(out, term, of.of, step) else {
+            return Err(TermFault::Memory);
+        };
+        Ok(VariableTyped {
+            of: of.of,
+            judge,
+            sort: of.sort,
+        })
     }
 
     /// Puts a variable of the type `of` at the end of the context. `sort` is a judgement for a sort of the type.
@@ -205,19 +415,41 @@ impl Theory {
         };
         let star = self.deriv.emit(&self.bank, judge, Step::Weak(star, sort))?;
         self.levels.push(Level { ctx, star }).map_err(|_| NoMemory)?;
+        if self.variables.push(Variable { of, sort }).is_err() {
+            self.levels.pop();
+            return Err(NoMemory);
+        }
         Ok(())
     }
 
     /// Takes the last variable of the context away.
     pub fn leave(&mut self)
-        requires { 1 < length self.old.contexts }
-        ensures contexts { self.new.contexts ≡ take (length self.old.contexts - 1) self.old.contexts }
-        ensures rest { self.new ≡ record self.old { contexts = self.new.contexts } }
+        requires { 0 < count self.old.context }
+        ensures { self.new ≡ record self.old { context = without_last self.old.context } }
     {
         self.levels.pop();
+        self.variables.pop();
     }
 
-    /// Keeps a judgement of the empty context as the entry of a line under a name that is free.
+    /// Opens a flag: its record is kept, and its variable put at the end of the context. `sort` is a judgement for a sort
+    /// of its type.
+    pub fn open_flag(&mut self, of: TermId, sort: JudgeId) -> Result<(), NoMemory>
+        requires of { IsTermAt self.old.items of }
+        requires sort { KnowsSort self.old sort (tree_at self.old.items of) }
+        ensures ok { OnOk result (AddsFlag self.old self.new (tree_at self.old.items of)) }
+        ensures goes { Goes self.old self.new }
+        ensures err { OnErr result (Continues self.old self.new) }
+    {
+        self.enter(of, sort)?;
+        if self.deriv.flag(&self.bank, sort).is_err() {
+            self.leave();
+            return Err(NoMemory);
+        }
+        Ok(())
+    }
+
+    /// Keeps a judgement of the context as the entry of a line under a name that is free. The context's types are the
+    /// entry's parameters.
     pub fn keep_line(
         &mut self,
         alloc: Global,
@@ -226,7 +458,6 @@ impl Theory {
         of: TermId,
         judge: JudgeId,
     ) -> Result<u32, NoMemory>
-        requires flat { context self.old ≡ Nil }
         requires body { IsTermAt self.old.items body }
         requires of { IsTermAt self.old.items of }
         requires judge { Knows (known self.old) judge (here self.old (tree_at self.old.items body) (tree_at self.old.items of)) }
@@ -238,14 +469,14 @@ impl Theory {
         ensures err { OnErr result (self.new ≡ self.old) }
     {
         let entry = Entry {
-            params: Terms::from_vec(Vec::new(alloc)),
+            params: self.parameters(alloc)?,
             body: Some(body),
             of,
         };
         self.keep(alloc, name, entry, judge, false)
     }
 
-    /// Keeps a judgement of the empty context, whose type is a sort, as a primitive under a name that is free.
+    /// Keeps a judgement of the context, whose type is a sort, as a primitive under a name that is free.
     pub fn keep_primitive(
         &mut self,
         alloc: Global,
@@ -253,7 +484,6 @@ impl Theory {
         of: TermId,
         judge: JudgeId,
     ) -> Result<u32, NoMemory>
-        requires flat { context self.old ≡ Nil }
         requires of { IsTermAt self.old.items of }
         requires judge { KnowsSort self.old judge (tree_at self.old.items of) }
         requires free { IsFree (known self.old) name.now }
@@ -264,11 +494,23 @@ impl Theory {
         ensures err { OnErr result (self.new ≡ self.old) }
     {
         let entry = Entry {
-            params: Terms::from_vec(Vec::new(alloc)),
+            params: self.parameters(alloc)?,
             body: None,
             of,
         };
         self.keep(alloc, name, entry, judge, true)
+    }
+
+    // The types of the context's variables.
+    fn parameters(&self, alloc: Global) -> Result<Terms, NoMemory>
+        ensures types { IfOk result (λ ts. listed self.now.items Nil ts ≡ self.now.context) }
+        ensures terms { IfOk result (λ ts. All (IsTermAt self.now.items) ts) }
+    {
+        let mut types = Vec::new(alloc);
+        for variable in &self.variables {
+            types.push(variable.of).map_err(|_| NoMemory)?;
+        }
+        Ok(Terms::from_vec(types))
     }
 
     // Keeps a judgement as an entry, in the derivation and under its name.
@@ -280,11 +522,9 @@ impl Theory {
         judge: JudgeId,
         prim: bool,
     ) -> Result<u32, NoMemory>
-        requires flat { context self.old ≡ Nil }
         requires live { IsLiveEntry self.old.items entry }
         requires fits { FitsEntry (known self.old) name.now judge prim }
         requires same { entry_of self.old.items (record { name = name.now; entry = entry }) ≡ entry_by prim name.now (judgement_at (known self.old) judge.0) }
-        requires context { (judgement_at (known self.old) judge.0).context ≡ Nil }
         requires room { length (env self.old) + 1 < 2 ^ 32 }
         ensures number { IfOk result (λ k. k ≡ length (env self.old)) }
         ensures ok { OnOk result (AddsEntry self.old self.new (entry_by prim name.now (judgement_at (known self.old) judge.0))) }

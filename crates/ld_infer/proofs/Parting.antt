@@ -1,0 +1,67 @@
+-- The function and the argument of an application, from what is answered for them.
+use Rattle.std.proofs.Common.{◌≡◌, Bool, true, false, List, Option, Some, None, ap, sym, subst}
+use Rattle.ld_terms.specs.Tree.{Tree, Trees, Pi, count}
+use Rattle.ld_terms.specs.Item.{Item}
+use Rattle.ld_terms.specs.Entry.{Env}
+use Rattle.ld_terms.specs.Tests.{equals}
+use Rattle.ld_infer.specs.declared.failure.RuleName.TheVariants.{Appl}
+use Rattle.ld_infer.specs.declared.failure.PathStep.TheVariants.{Fun, Arg}
+use Rattle.ld_infer.specs.declared.failure.InferFault.{InferFault}
+use Rattle.ld_infer.specs.Task.{Task, Gives, NotBuilt, Ends}
+use Rattle.ld_infer.specs.Account.{Account, Comes}
+use Rattle.ld_infer.specs.Reading.{Asked, Refusal, Found, found, inside, product_of, product_in, suits, function_reading, argument_reading}
+use Rattle.ld_infer.specs.Infers.{Stops, IsWithin}
+use Rattle.ld_infer.proofs.Accounts.{comes_then, comes_ended, comes_faulted}
+use Rattle.ld_infer.proofs.Stopping.{stops_first, stops_within, gives_within}
+use Rattle.ld_infer.proofs.Sorts.{gives_now, not_built_now, not_built_first}
+use Rattle.ld_terms.proofs.TreeTests.{equal_trees, other_trees}
+
+module _ (Δ : Env) (read : Trees → Asked → Tree → Task Refusal Found) (ctx : Trees) where
+  product_there : (o : Option (Tree × Tree)) (p : Tree × Tree) (q : Asked) (type : Tree) (w : Account) → o ≡ Some p → Comes (product_in Δ (count ctx) (read ctx) o q type) (Gives p) w w
+  product_there o p q type w e =
+      let P : Option (Tree × Tree) → Type 0 = λ x. Comes (product_in Δ (count ctx) (read ctx) x q type) (Gives p) w w in subst P (sym e) (gives_now p w)
+
+  no_product : (o : Option (Tree × Tree)) (q : Asked) (type : Tree) (w : Account) → o ≡ None → Comes (product_in Δ (count ctx) (read ctx) o q type) NotBuilt w w
+  no_product o q type w e =
+      let P : Option (Tree × Tree) → Type 0 = λ x. Comes (product_in Δ (count ctx) (read ctx) x q type) NotBuilt w w in subst P (sym e) (not_built_first _ w)
+
+  pub function_stops : (items : List Item) (f : Tree) (x g : InferFault) (w w' : Account) → Stops items (read ctx (Appl, 1) f) x w w' → IsWithin Fun x g
+      → Stops items (function_reading Δ read ctx f) g w w'
+  function_stops items f x g w w' h is = stops_within items Fun _ x g w w' (stops_first items (read ctx (Appl, 1) f) _ x w w' h) is
+
+  pub function_given : (f type dom ran : Tree) (comes : Bool) (w w' : Account) → Comes (read ctx (Appl, 1) f) (Gives (found type comes)) w w' → type ≡ Pi dom ran
+      → Comes (function_reading Δ read ctx f) (Gives (dom, ran)) w w'
+  function_given f type dom ran comes w w' h e =
+      gives_within Fun _ (dom, ran) w w'
+      (comes_then (read ctx (Appl, 1) f) _ (found type comes) (Gives (dom, ran)) w w' w' h (product_there (product_of type) (dom, ran) (Appl, 1) type w' (ap product_of e)))
+
+  pub function_not_built : (f type : Tree) (comes : Bool) (w w' : Account) → Comes (read ctx (Appl, 1) f) (Gives (found type comes)) w w' → product_of type ≡ None
+      → Comes (function_reading Δ read ctx f) NotBuilt w w'
+  function_not_built f type comes w w' h e =
+      comes_faulted (inside Fun) _ NotBuilt w w'
+      (comes_then (read ctx (Appl, 1) f) _ (found type comes) NotBuilt w w' w' h (no_product (product_of type) (Appl, 1) type w' e))
+
+  suited : (same : Bool) (q : Asked) (type wanted : Tree) (w : Account) → same ≡ true → Comes (suits Δ (count ctx) (read ctx) same q type wanted) (Gives tt) w w
+  suited same q type wanted w e =
+      let P : Bool → Type 0 = λ x. Comes (suits Δ (count ctx) (read ctx) x q type wanted) (Gives tt) w w in subst P (sym e) (gives_now tt w)
+
+  not_suited : (same : Bool) (q : Asked) (type wanted : Tree) (w : Account) → same ≡ false → Comes (suits Δ (count ctx) (read ctx) same q type wanted) NotBuilt w w
+  not_suited same q type wanted w e =
+      let P : Bool → Type 0 = λ x. Comes (suits Δ (count ctx) (read ctx) x q type wanted) NotBuilt w w in
+      subst P (sym e) (comes_ended _ _ NotBuilt NotBuilt w w (comes_faulted _ _ NotBuilt w w (not_built_now w)) Ends.unbuilt)
+
+  pub argument_stops : (items : List Item) (u wanted : Tree) (x g : InferFault) (w w' : Account) → Stops items (read ctx (Appl, 2) u) x w w' → IsWithin Arg x g
+      → Stops items (argument_reading Δ read ctx u wanted) g w w'
+  argument_stops items u wanted x g w w' h is = stops_within items Arg _ x g w w' (stops_first items (read ctx (Appl, 2) u) _ x w w' h) is
+
+  pub argument_given : (u type wanted : Tree) (comes : Bool) (w w' : Account) → Comes (read ctx (Appl, 2) u) (Gives (found type comes)) w w' → type ≡ wanted
+      → Comes (argument_reading Δ read ctx u wanted) (Gives tt) w w'
+  argument_given u type wanted comes w w' h e =
+      gives_within Arg _ tt w w'
+      (comes_then (read ctx (Appl, 2) u) _ (found type comes) (Gives tt) w w' w' h (suited (equals type wanted) (Appl, 2) type wanted w' (equal_trees type wanted e)))
+
+  pub argument_not_built : (u type wanted : Tree) (comes : Bool) (w w' : Account) → Comes (read ctx (Appl, 2) u) (Gives (found type comes)) w w' → (type ≡ wanted → ⊥)
+      → Comes (argument_reading Δ read ctx u wanted) NotBuilt w w'
+  argument_not_built u type wanted comes w w' h n =
+      comes_faulted (inside Arg) _ NotBuilt w w'
+      (comes_then (read ctx (Appl, 2) u) _ (found type comes) NotBuilt w w' w' h (not_suited (equals type wanted) (Appl, 2) type wanted w' (other_trees type wanted n)))

@@ -1,0 +1,108 @@
+-- The sort of a term, of a domain, and of a type that is typed again.
+use Rattle.std.proofs.Common.{◌≡◌, ◌+◌, ◌-◌, ◌≤◌, ℕ, suc, Bool, true, false, ◌||◌, List, Result, Err, sym, subst, arith}
+use Rattle.ld_terms.specs.Tree.{Tree, Trees}
+use Rattle.ld_terms.specs.Item.{Item}
+use Rattle.ld_terms.specs.Entry.{Env}
+use Rattle.ld_terms.specs.Tests.{is_star, is_box}
+use Rattle.ld_infer.specs.declared.failure.InferFault.{InferFault}
+use Rattle.ld_infer.specs.declared.failure.InferFault.TheVariants as fault
+use Rattle.ld_infer.specs.declared.job.Stop.{Stop}
+use Rattle.ld_infer.specs.declared.job.Stop.TheVariants as stop
+use Rattle.ld_infer.specs.Task.{Pairs, Task, Gives, Fails, High, Nested, NotBuilt, Answers, gives, fails, not_built, step, Ends, ◌>>=◌}
+use Rattle.ld_infer.specs.Account.{Account, Takes, Comes}
+use Rattle.ld_infer.specs.Reading.{Asked, Again, Refusal, refusal, Found, found, exposed_sort, sort_in, sort_of, again, reading, read_within, Types, part_reading}
+use Rattle.ld_infer.specs.Infers.{Stops, StopsBy, IsToldAs, refusal_of}
+use Rattle.ld_infer.proofs.Tasks.{gives_answers, fails_answers, not_built_answers, step_answers}
+use Rattle.ld_infer.proofs.Accounts.{comes_at_once, comes_then, comes_ended, comes_faulted, runs_out_first, runs_out_then, runs_out_faulted}
+use Rattle.ld_infer.proofs.Stopping.{stops_first, refused_by}
+
+-- a value that is given at once, a fault, and a form that is not built
+pub gives_now : {E X : Type 0} (x : X) (w : Account) → Comes {E = E} (gives x) (Gives x) w w
+gives_now x w = comes_at_once (gives x) (Gives x) w (gives_answers x w.known)
+
+pub fails_now : {E X : Type 0} (e : E) (w : Account) → Comes {X = X} (fails e) (Fails e) w w
+fails_now e w = comes_at_once (fails e) (Fails e) w (fails_answers e w.known)
+
+pub not_built_now : {E X : Type 0} (w : Account) → Comes {E = E} {X = X} not_built NotBuilt w w
+not_built_now w = comes_at_once not_built NotBuilt w (not_built_answers w.known)
+
+-- what begins with a form that is not built is not built
+pub not_built_first : {E X Y : Type 0} (f : X → Task E Y) (w : Account) → Comes (not_built >>= f) NotBuilt w w
+not_built_first f w = comes_ended not_built f NotBuilt NotBuilt w w (not_built_now w) Ends.unbuilt
+
+-- at a nesting that is not passed, the reading of a term is that by its form
+pub reads : (Δ : Env) (ctx : Trees) (nest : ℕ) (q : Asked) (t t' : Tree) (P : Task Refusal Found → Type 0) → nest ≤ 1000 → t ≡ t'
+    → P (reading Δ (part_reading nest Δ) ctx q t') → P (Types Δ ctx nest q t)
+reads Δ ctx nest q t t' P less same h =
+    let left : 1001 - nest ≡ suc (1001 - (nest + 1)) = omega (arith, less) in
+    let Q : ℕ → Type 0 = λ n. P (read_within n Δ ctx q t) in
+    let R : Tree → Type 0 = λ x. P (reading Δ (part_reading nest Δ) ctx q x) in
+    subst Q (sym left) (subst R (sym same) h)
+
+-- where a question asks whether a tree is a sort
+module _ (Δ : Env) (depth : ℕ) (read : Asked → Tree → Task Refusal Found) (q : Asked) where
+  pub sort_in_true : (is : Bool) (type : Tree) (w : Account) → is ≡ true → Comes (sort_in Δ depth read is q type) (Gives type) w w
+  sort_in_true true type w e = gives_now type w
+  sort_in_true false type w e = cc
+
+  pub sort_in_false : (is : Bool) (type : Tree) (w : Account) → is ≡ false → Comes (sort_in Δ depth read is q type) NotBuilt w w
+  sort_in_false false type w e = not_built_first (λ t. exposed_sort Δ depth read (is_star t) q type) w
+  sort_in_false true type w e = cc
+
+  pub sort_given : (t type : Tree) (comes : Bool) (w w' : Account) → Comes (read q t) (Gives (found type comes)) w w' → (is_star type || is_box type) ≡ true
+      → Comes (sort_of Δ depth read q t) (Gives type) w w'
+  sort_given t type comes w w' h e = comes_then (read q t) _ (found type comes) (Gives type) w w' w' h (sort_in_true (is_star type || is_box type) type w' e)
+
+  pub sort_not_built : (t type : Tree) (comes : Bool) (w w' : Account) → Comes (read q t) (Gives (found type comes)) w w' → (is_star type || is_box type) ≡ false
+      → Comes (sort_of Δ depth read q t) NotBuilt w w'
+  sort_not_built t type comes w w' h e = comes_then (read q t) _ (found type comes) NotBuilt w w' w' h (sort_in_false (is_star type || is_box type) type w' e)
+
+  pub sort_stops : (items : List Item) (t : Tree) (f : InferFault) (w w' : Account) → Stops items (read q t) f w w' → Stops items (sort_of Δ depth read q t) f w w'
+  sort_stops items t f w w' h = stops_first items (read q t) _ f w w' h
+
+  -- one step of work
+  pub one_step : (w w' : Account) → Takes w w' 1 → w'.known ≡ w.known → Comes {E = Refusal} step (Gives tt) w w'
+  one_step w w' takes known =
+      let P : Pairs → Type 0 = λ K. Answers {E = Refusal} step w.known (Gives tt) K 1 in
+      record { steps = 1; answers = subst P (sym known) (step_answers w.known); takes = takes }
+
+  pub again_given : (t sort : Tree) (w w1 w2 : Account) → Takes w w1 1 → w1.known ≡ w.known → Comes (sort_of Δ depth read q t) (Gives sort) w1 w2
+      → Comes (again Δ depth read q t) (Gives tt) w w2
+  again_given t sort w w1 w2 takes known h =
+      comes_then _ _ sort (Gives tt) w w2 w2
+      (comes_then step _ tt (Gives sort) w w1 w2 (one_step w w1 takes known) (comes_faulted (λ _. refusal q depth Again) (sort_of Δ depth read q t) (Gives sort) w1 w2 h))
+      (gives_now tt w2)
+
+  again_stop : (t : Tree) (s : Stop) (w w1 w2 : Account) → Takes w w1 1 → w1.known ≡ w.known → StopsBy (sort_of Δ depth read q t) s w1 w2 → StopsBy (again Δ depth read q t) s w w2
+  again_stop t stop.Spent w w1 w2 takes known h =
+      runs_out_first _ _ w w2 (runs_out_then step _ tt w w1 w2 (one_step w w1 takes known) (runs_out_faulted (λ _. refusal q depth Again) (sort_of Δ depth read q t) w1 w2 h))
+  again_stop t stop.High w w1 w2 takes known h =
+      comes_ended _ _ High High w w2
+      (comes_then step _ tt High w w1 w2 (one_step w w1 takes known) (comes_faulted (λ _. refusal q depth Again) (sort_of Δ depth read q t) High w1 w2 h)) Ends.high
+  again_stop t stop.Nested w w1 w2 takes known h =
+      comes_ended _ _ Nested Nested w w2
+      (comes_then step _ tt Nested w w1 w2 (one_step w w1 takes known) (comes_faulted (λ _. refusal q depth Again) (sort_of Δ depth read q t) Nested w1 w2 h)) Ends.nesting
+  again_stop t stop.Memory w w1 w2 takes known h = tt
+
+  again_fails : (t : Tree) (r : Refusal) (w w1 w2 : Account) → Takes w w1 1 → w1.known ≡ w.known → Comes (sort_of Δ depth read q t) (Fails r) w1 w2
+      → Comes (again Δ depth read q t) (Fails (refusal q depth Again)) w w2
+  again_fails t r w w1 w2 takes known h =
+      comes_ended _ _ (Fails (refusal q depth Again)) (Fails (refusal q depth Again)) w w2
+      (comes_then step _ tt (Fails (refusal q depth Again)) w w1 w2 (one_step w w1 takes known) (comes_faulted (λ _. refusal q depth Again) (sort_of Δ depth read q t) (Fails r) w1 w2 h))
+      Ends.fault
+
+  -- a fault of the sort, told of typing again
+  pub again_stops : (items : List Item) (t : Tree) (f g : InferFault) (w w1 w2 : Account) → Takes w w1 1 → w1.known ≡ w.known
+      → Stops items (sort_of Δ depth read q t) f w1 w2 → IsToldAs items (refusal q depth Again) f g → Stops items (again Δ depth read q t) g w w2
+  again_stops items t (fault.Refused x) g w w1 w2 takes known h is =
+      refused_by items (again Δ depth read q t) (refusal q depth Again) g w w2 is (again_fails t (refusal_of items x) w w1 w2 takes known h)
+  again_stops items t (fault.Stop s) g w w1 w2 takes known h is =
+      let P : InferFault → Type 0 = λ x. Stops items (again Δ depth read q t) x w w2 in subst P (sym is) (again_stop t s w w1 w2 takes known h)
+  again_stops items t fault.NotBuilt g w w1 w2 takes known h is =
+      let P : InferFault → Type 0 = λ x. Stops items (again Δ depth read q t) x w w2 in
+      subst P (sym is) (comes_ended _ _ NotBuilt NotBuilt w w2
+      (comes_then step _ tt NotBuilt w w1 w2 (one_step w w1 takes known) (comes_faulted (λ _. refusal q depth Again) (sort_of Δ depth read q t) NotBuilt w1 w2 h)) Ends.unbuilt)
+
+-- the answer is a fault that was passed on
+pub at_fault : {X : Type 0} (P : Result X InferFault → Type 0) (r : Result X InferFault) (f g : InferFault) → r ≡ Err g → g ≡ f → P (Err f) → P r
+at_fault P r f g e same h = let Q : InferFault → Type 0 = λ x. P (Err x) in subst P (sym e) (subst Q (sym same) h)
