@@ -1,140 +1,118 @@
--- What the rules answer for an item, for the forms that are built, and what an item adds to a theory.
-use Rattle.std.specs.Prelude.{◌≡◌, ℕ, ◌+◌, Bool, true, false, List, [], ◌∷◌, ⊤, Result, Ok, Err}
-use Rattle.std.proofs.Math.Decide.{ℕ_discrete}
-use Rattle.ld_terms.specs.Tree.{Tree, Star, Box, Var, App, Lam, Pi, Const, Nil, count, Tree-discrete}
+-- What the rules answer for an item, and what an item adds to a theory.
+use Rattle.std.specs.Prelude.{◌≡◌, ℕ, Bool, true, false, List, Result, Ok, Err}
+use Rattle.ld_terms.specs.Tree.{Tree, Box, Trees, count}
+use Rattle.ld_terms.specs.Tests.{equals, is_box}
 use Rattle.ld_terms.specs.Entry.{Entry, Env, Defined, Primitive}
-use Rattle.ld_infer.specs.declared.failure.RuleName.{RuleName}
-use Rattle.ld_infer.specs.declared.failure.RuleName.TheVariants.{Def, DefPrim}
-use Rattle.ld_infer.specs.declared.failure.InferFault.{InferFault}
-use Rattle.ld_infer.specs.declared.failure.InferFault.TheVariants as infer
-use Rattle.ld_infer.specs.declared.failure.PathStep.TheVariants.{Of, Body}
-use Rattle.ld_infer.specs.Reading.{Answer, Gives, Refuses, Refusal, NotSame, reading, sort_reading, within}
-use Rattle.ld_infer.specs.Reading as answer
 use Rattle.ld_terms.specs.Item.{Item}
 use Rattle.ld_terms.specs.Bank.{tree_at}
 use Rattle.ld_terms.specs.declared.bank.TermId.{TermId}
 use Rattle.ld_record.specs.declared.record.JudgeId.{JudgeId}
 use Rattle.ld_record.specs.Growth.{Knows}
-use Rattle.ld_infer.specs.Standing.{Standing, known, here, KnowsSort, AddsEntry}
-use Rattle.ld_infer.specs.Infers.{refusal_of}
+use Rattle.ld_infer.specs.declared.failure.RuleName.{RuleName}
+use Rattle.ld_infer.specs.declared.failure.RuleName.TheVariants.{Weak, Def, DefPrim}
+use Rattle.ld_infer.specs.declared.failure.PathStep.TheVariants.{Of, Body}
+use Rattle.ld_infer.specs.declared.failure.InferFault.{InferFault}
+use Rattle.ld_infer.specs.declared.failure.InferFault.TheVariants as infer
+use Rattle.ld_infer.specs.Task.{Task, Gives, Fails, NotBuilt, gives, fails, ◌>>=◌, ◌>>◌, faults_by}
+use Rattle.ld_infer.specs.Account.{Account, Comes}
+use Rattle.ld_infer.specs.Reading.{Refusal, refusal, inside, within, Apart, NotSame, Found, compared, Types, SortOf}
+use Rattle.ld_infer.specs.Standing.{Standing, known, here, KnowsSort}
+use Rattle.ld_infer.specs.Infers.{StopsBy, IsTyped, refusal_of}
+use Rattle.ld_infer.specs.declared.inference.Typed.{Typed}
+use Rattle.ld_infer.specs.declared.job.Stop.TheVariants as Stop
 use Rattle.ld_defrules.specs.declared.ItemFault.{ItemFault}
 use Rattle.ld_defrules.specs.declared.ItemFault.TheVariants as fault
 
--- the answer of the rules
-pub data Judged : Type 0 where
-  Accepted : Judged
-  Refused : Refusal → Judged
-  -- a sort or a comparison of two trees is wanted that is not built
-  NotBuilt : Judged
+-- the refusal of a body whose type is another than the stated one
+abbrev pub other_type : (ctx : Trees) → (type stated : Tree) → Apart → Refusal
+other_type ctx type stated d = inside Body (refusal (Def, 2) (count ctx) (NotSame type stated d))
 
--- equality of trees, as a test
-abbrev pub is_yes : {A : Type 0} → Dec A → Bool
-is_yes (yes p) = true
-is_yes (no p) = false
+-- over an environment, under the flags whose types are a context
+module _ (env : Env) (ctx : Trees) where
+  -- the stated type of an item has a sort, for which a rule asks as its second premise
+  abbrev pub type_judged : RuleName → (type : Tree) → Task Refusal Tree
+  type_judged rule type = within Of (SortOf env ctx 1 (rule, 2) type)
 
-abbrev pub equals : Tree → Tree → Bool
-equals t u = is_yes (Tree-discrete ℕ_discrete t u)
+  abbrev pub flag_judged : (type : Tree) → Task Refusal (Unit {0})
+  flag_judged type = type_judged Weak type >> gives tt
 
-abbrev pub is_box : Tree → Bool
-is_box Box = true
-is_box Star = false
-is_box (Var i) = false
-is_box (App f u) = false
-is_box (Lam a m) = false
-is_box (Pi a b) = false
-is_box (Const k us) = false
+  abbrev pub primitive_judged : (type : Tree) → Task Refusal (Unit {0})
+  primitive_judged type = type_judged DefPrim type >> gives tt
 
--- an answer that gives something, and one that ends the judging
-abbrev pub accepted_by : Answer → Judged
-accepted_by (Gives t) = Accepted
-accepted_by (Refuses r) = Refused r
-accepted_by answer.NotBuilt = NotBuilt
+  -- the reading of a line's body
+  abbrev pub body_judged : (body : Tree) → Task Refusal Found
+  body_judged body = within Body (Types env ctx 1 (Def, 2) body)
 
--- one judging after another
-abbrev pub and_then : Judged → Judged → Judged
-and_then Accepted b = b
-and_then (Refused r) b = Refused r
-and_then NotBuilt b = NotBuilt
+  -- the type found is the one stated, or is compared with it
+  abbrev pub same_as_stated : (equal : Bool) → (type stated : Tree) → Task Refusal (Unit {0})
+  same_as_stated true type stated = gives tt
+  same_as_stated false type stated = faults_by (other_type ctx type stated) (compared env type stated)
 
--- the stated type of an item has a sort, for which a rule asks as its second premise
-abbrev pub type_judged : Env → (depth : ℕ) → RuleName → (type : Tree) → Judged
-type_judged env d rule type = accepted_by (within Of (sort_reading env d rule 2 type))
+  abbrev pub has_type : (body stated : Tree) → Task Refusal (Unit {0})
+  has_type body stated = body_judged body >>= λ r. same_as_stated (equals r.type stated) r.type stated
+
+  -- The word box itself has no sort, and is the type of a body without a comparison.
+  abbrev pub box_or_not : (box : Bool) → (type : Tree) → Task Refusal (Unit {0})
+  box_or_not true type = gives tt
+  box_or_not false type = fails (other_type ctx type Box (record { left = type; right = Box; under = 0 }))
+
+  abbrev pub has_box : (body : Tree) → Task Refusal (Unit {0})
+  has_box body = body_judged body >>= λ r. box_or_not (is_box r.type) r.type
+
+  -- a line: its stated type has a sort unless it is box itself, and its body has the stated type
+  abbrev pub line_judging : (box : Bool) → (body stated : Tree) → Task Refusal (Unit {0})
+  line_judging true body stated = has_box body
+  line_judging false body stated = type_judged Def stated >> has_type body stated
+
+  abbrev pub line_judged : (body stated : Tree) → Task Refusal (Unit {0})
+  line_judged body stated = line_judging (is_box stated) body stated
+
+-- the entries of a primitive and of a line, whose parameters are the flags' types
+abbrev pub primitive_of : List ℕ → Trees → Tree → Entry
+primitive_of name ctx type = record { name = name; params = ctx; body = Primitive; type = type }
+
+abbrev pub line_of : List ℕ → Trees → (body type : Tree) → Entry
+line_of name ctx body type = record { name = name; params = ctx; body = Defined body; type = type }
+
+-- The task ends with what a fault says. Want of memory is free.
+abbrev pub ItemStops : {X : Type 0} → List Item → Task Refusal X → ItemFault → (before after : Account) → Type 0
+ItemStops items p fault.NameTaken before after = ⊥
+ItemStops items p (fault.Refused f) before after = Comes p (Fails (refusal_of items f)) before after
+ItemStops items p (fault.Stop s) before after = StopsBy p s before after
+ItemStops items p fault.NotBuilt before after = Comes p NotBuilt before after
+
+-- An item is accepted, with what it adds; or it is refused. Taken says that its name is taken.
+abbrev pub Judges : List Item → Task Refusal (Unit {0}) → (Taken Adds : Type 0) → (before after : Account) → {X : Type 0} → Result X ItemFault → Type 0
+Judges items p Taken Adds before after (Ok x) = Comes p (Gives tt) before after × Adds
+Judges items p Taken Adds before after (Err fault.NameTaken) = Taken
+Judges items p Taken Adds before after (Err (fault.Refused f)) = ItemStops items p (fault.Refused f) before after
+Judges items p Taken Adds before after (Err (fault.Stop s)) = ItemStops items p (fault.Stop s) before after
+Judges items p Taken Adds before after (Err fault.NotBuilt) = ItemStops items p fault.NotBuilt before after
+
+-- the judgement of an item's type and a sort, where the task gives a sort
+abbrev pub SortsType : (old new : Standing) → Task Refusal Tree → TermId → (before after : Account) → Result JudgeId ItemFault → Type 0
+SortsType old new p t before after (Ok j) = ((s : Tree) × Comes p (Gives s) before after) × KnowsSort new j (tree_at old.items t)
+SortsType old new p t before after (Err f) = ItemStops new.items p f before after
+
+-- the judgement of a line's body and its stated type
+abbrev pub TypesLine : (old new : Standing) → Task Refusal (Unit {0}) → (body of : TermId) → (before after : Account) → Result JudgeId ItemFault → Type 0
+TypesLine old new p body of before after (Ok j) = Comes p (Gives tt) before after × Knows (known new) j (here old (tree_at old.items body) (tree_at old.items of))
+TypesLine old new p body of before after (Err f) = ItemStops new.items p f before after
 
 -- the reading of a line's body
-abbrev pub body_reading : Env → (depth : ℕ) → (body : Tree) → Answer
-body_reading env d body = within Body (reading env d Def 2 body)
+abbrev pub BodyTypes : (old new : Standing) → Task Refusal Found → (body : TermId) → (before after : Account) → Result Typed ItemFault → Type 0
+BodyTypes old new p body before after (Ok r) = IsTyped old new p body before after r
+BodyTypes old new p body before after (Err f) = ItemStops new.items p f before after
 
--- a primitive: its type has a sort
-abbrev pub primitive_judged : Env → (depth : ℕ) → (type : Tree) → Judged
-primitive_judged env d type = type_judged env d DefPrim type
-
-abbrev pub same_or_compared : Bool → Judged
-same_or_compared true = Accepted
-same_or_compared false = NotBuilt
-
--- the type found is the one stated; two other trees would be compared
-abbrev pub has_type : (stated : Tree) → Answer → Judged
-has_type stated (Gives found) = same_or_compared (equals found stated)
-has_type stated (Refuses r) = Refused r
-has_type stated answer.NotBuilt = NotBuilt
-
--- a type other than box is not the word box
-abbrev pub box_or_not : (depth : ℕ) → (found : Tree) → Bool → Judged
-box_or_not d found true = Accepted
-box_or_not d found false = Refused (record { rule = Def; premise = 2; path = Body ∷ []; depth = d; reason = NotSame found Box found Box 0 })
-
-abbrev pub has_box : (depth : ℕ) → Answer → Judged
-has_box d (Gives found) = box_or_not d found (is_box found)
-has_box d (Refuses r) = Refused r
-has_box d answer.NotBuilt = NotBuilt
-
--- a line: its stated type has a sort unless it is box itself, and its body has the stated type
-abbrev pub line_judging : Env → (depth : ℕ) → (box : Bool) → (body type : Tree) → Judged
-line_judging env d true body type = has_box d (body_reading env d body)
-line_judging env d false body type = and_then (type_judged env d Def type) (has_type type (body_reading env d body))
-
-abbrev pub line_judged : Env → (depth : ℕ) → (body type : Tree) → Judged
-line_judged env d body type = line_judging env d (is_box type) body type
-
-abbrev pub primitive_of : List ℕ → Tree → Entry
-primitive_of name type = record { name = name; params = Nil; body = Primitive; type = type }
-
-abbrev pub line_of : List ℕ → (body type : Tree) → Entry
-line_of name body type = record { name = name; params = Nil; body = Defined body; type = type }
-
--- A fault is what the rules answer; want of memory is free.
-abbrev pub FaultOf : List Item → Judged → ItemFault → Type 0
-FaultOf items j fault.NameTaken = ⊥
-FaultOf items j (fault.Refused f) = j ≡ Refused (refusal_of items f)
-FaultOf items j fault.NotBuilt = j ≡ NotBuilt
-FaultOf items j fault.Memory = ⊤
-
--- the rules accept, and the judgement for a sort is kept
-pub record HasSort (old new : Standing) (j : Judged) (t : TermId) (judge : JudgeId) : Type 0 where
-  pub accepted : j ≡ Accepted
-  pub knows : KnowsSort new judge (tree_at old.items t)
-
--- the rules accept, and the judgement of the term and the type is kept
-pub record HasType (old new : Standing) (j : Judged) (t type : TermId) (judge : JudgeId) : Type 0 where
-  pub accepted : j ≡ Accepted
-  pub knows : Knows (known new) judge (here old (tree_at old.items t) (tree_at old.items type))
-
--- the refusal of a type that is found where another is wanted
-abbrev pub IsNotBox : List Item → (found wanted : TermId) → ItemFault → Type 0
-IsNotBox items found wanted (fault.Refused f) =
-    refusal_of items f ≡ record { rule = Def; premise = 2; path = Body ∷ []; depth = 0; reason = NotSame (tree_at items found) (tree_at items wanted) (tree_at items found) (tree_at items wanted) 0 }
-IsNotBox items found wanted fault.Memory = ⊤
-IsNotBox items found wanted _ = ⊥
-
--- An item is accepted, and its entry is added; or it is refused as the rules answer. A name that is taken is told apart.
-abbrev pub Judges : (old new : Standing) → Judged → Entry → Result ℕ ItemFault → Type 0
-Judges old new j e (Ok k) = (j ≡ Accepted) × AddsEntry old new e
-Judges old new j e (Err fault.NameTaken) = ⊤
-Judges old new j e (Err (fault.Refused f)) = FaultOf new.items j (fault.Refused f)
-Judges old new j e (Err fault.NotBuilt) = FaultOf new.items j fault.NotBuilt
-Judges old new j e (Err fault.Memory) = ⊤
+-- the fault is that a body has another type than the stated one, with which it isn't compared
+abbrev pub IsOtherType : List Item → Trees → (found wanted : TermId) → ItemFault → Type 0
+IsOtherType items ctx t n (fault.Refused f) =
+    refusal_of items f ≡ other_type ctx (tree_at items t) (tree_at items n) (record { left = tree_at items t; right = tree_at items n; under = 0 })
+IsOtherType items ctx t n (fault.Stop s) = s ≡ Stop.Memory
+IsOtherType items ctx t n fault.NameTaken = ⊥
+IsOtherType items ctx t n fault.NotBuilt = ⊥
 
 abbrev pub item_fault : InferFault → ItemFault
 item_fault (infer.Refused f) = fault.Refused f
+item_fault (infer.Stop s) = fault.Stop s
 item_fault infer.NotBuilt = fault.NotBuilt
-item_fault infer.Memory = fault.Memory

@@ -1,19 +1,21 @@
-//! Items of a book judged by the rules for definitions: a primitive, a line.
+//! Items of a book judged by the rules: a flag, a primitive, a line (docs/calculus.md, "Items"; Nederpelt and Geuvers,
+//! *Type Theory and Formal Proof*, chapters 8 to 11).
 #![tactic(auto)]
 
-ghost use Rattle.std.specs.Prelude.{◌≡◌, ◌<◌, ◌≤◌, ◌+◌, ◌^◌, ◌↔◌, List, length, Contains, IsTrue, true, false, IfOk, OnErr, MatchResult};
-ghost use Rattle.ld_terms.specs.Tree.{Nil, Box};
+ghost use Rattle.std.specs.Prelude.{◌≡◌, ◌<◌, ◌≤◌, ◌+◌, ◌-◌, ◌^◌, ◌↔◌, List, length, Contains, IsTrue, true, false, IfOk, OnErr};
+ghost use Rattle.ld_terms.specs.Tree.{Trees, count};
+ghost use Rattle.ld_terms.specs.Tests.{is_box};
 ghost use Rattle.ld_terms.specs.Entry.{IsFresh};
 ghost use Rattle.ld_terms.specs.Item.{Item};
 ghost use Rattle.ld_terms.specs.Bank.{tree_at, IsTermAt};
-ghost use Rattle.ld_infer.specs.Standing.{env, context, Continues, Goes};
-ghost use Rattle.ld_infer.specs.Infers.{NamesEntries, IsTyped};
-ghost use Rattle.ld_defrules.specs.Judged.{Judges, accepted_by, primitive_judged, type_judged, body_reading, line_judged, primitive_of, line_of, FaultOf, HasSort, HasType, IsNotBox};
-ghost use Rattle.ld_defrules.specs.Judged as judged;
+ghost use Rattle.ld_infer.specs.Standing.{env, Continues, Goes, AddsEntry, AddsFlag, without};
+ghost use Rattle.ld_infer.specs.Infers.{IsReadable, Infers};
+ghost use Rattle.ld_defrules.specs.Judged.{Judges, flag_judged, primitive_judged, type_judged, body_judged, line_judged, primitive_of, line_of, has_box, SortsType, TypesLine, BodyTypes, IsOtherType};
 ghost use Rattle.ld_env.specs.Named.{names_of};
 
 use ld_infer::{
-    Failure, InferFault, Path, PathStep, RuleName, Theory, Typed, Why, infer, sort_of, within,
+    Failure, InferFault, Job, Path, PathStep, RuleName, Stop, Theory, Typed, Why, infer, sort_of,
+    within,
 };
 use ld_record::JudgeId;
 use ld_terms::{Node, TermId};
@@ -27,10 +29,10 @@ pub enum ItemFault {
     NameTaken,
     #[error("a rule refuses the item")]
     Refused(Failure),
+    #[error("the check stops")]
+    Stop(Stop),
     #[error("a form of judging is not built")]
     NotBuilt,
-    #[error("memory ran out")]
-    Memory,
 }
 
 impl From<InferFault> for ItemFault {
@@ -42,74 +44,112 @@ impl From<InferFault> for ItemFault {
     fn from(fault: InferFault) -> Self {
         match fault {
             InferFault::Refused(failure) => ItemFault::Refused(failure),
+            InferFault::Stop(stop) => ItemFault::Stop(stop),
             InferFault::NotBuilt => ItemFault::NotBuilt,
-            InferFault::Memory => ItemFault::Memory,
         }
     }
 }
 
-/// Judges a primitive: its type must have a sort. It is kept as an entry under its name, and its number is given.
-/// The name has 1 to 255 bytes.
+/// Judges a flag: its type must have a sort. It is opened behind the flags that are open, and its record is kept. How
+/// many flags may be open is the caller's rule.
+pub fn open_flag(
+    alloc: Global,
+    theory: &mut Theory,
+    of: TermId,
+    job: &mut Job,
+) -> Result<(), ItemFault>
+    requires of { IsReadable theory.old of }
+    requires deep { count theory.old.context + 1001 < 2 ^ 32 }
+    ensures judges { Judges theory.new.items (flag_judged (env theory.old) theory.old.context (tree_at theory.old.items of))
+        ⊥ (AddsFlag theory.old theory.new (tree_at theory.old.items of)) job.old job.new result }
+    ensures goes { Goes theory.old theory.new }
+    ensures err { OnErr result (Continues theory.old theory.new) }
+    ensures most { job.new.left ≤ job.old.left }
+{
+    let judge = type_sort(alloc, theory, RuleName::Weak, of, job)?;
+    match theory.open_flag(of, judge) {
+        Ok(()) => Ok(()),
+        Err(_) => Err(ItemFault::Stop(Stop::Memory)),
+    }
+}
+
+/// Closes flags, the last first, down to a depth.
+pub fn close_to(theory: &mut Theory, depth: u32)
+    requires depth { depth ≤ count theory.old.context }
+    requires deep { count theory.old.context < 2 ^ 32 }
+    ensures { theory.new ≡ record theory.old { context = without (count theory.old.context - depth) theory.old.context } }
+{
+    while theory.depth() > depth {
+        theory.leave();
+    }
+}
+
+/// Judges a primitive: its type must have a sort. It is kept as an entry under its name, with the types of the open
+/// flags as parameters, and its number is given. The name has 1 to 255 bytes.
 pub fn primitive(
     alloc: Global,
     theory: &mut Theory,
     name: &[u8],
     of: TermId,
+    job: &mut Job,
 ) -> Result<u32, ItemFault>
-    requires flat { context theory.old ≡ Nil }
-    requires of { IsTermAt theory.old.items of }
-    requires names { NamesEntries (length (env theory.old)) (tree_at theory.old.items of) }
+    requires of { IsReadable theory.old of }
     requires some { 0 < length name.now }
     requires short { length name.now ≤ 255 }
     requires room { length (env theory.old) + 1 < 2 ^ 32 }
-    ensures judges { Judges theory.old theory.new (primitive_judged (env theory.old) 0 (tree_at theory.old.items of)) (primitive_of name.now (tree_at theory.old.items of)) result }
+    requires deep { count theory.old.context + 1001 < 2 ^ 32 }
+    ensures judges { Judges theory.new.items (primitive_judged (env theory.old) theory.old.context (tree_at theory.old.items of))
+        (Contains (names_of theory.old.entries) name.now)
+        (AddsEntry theory.old theory.new (primitive_of name.now theory.old.context (tree_at theory.old.items of))) job.old job.new result }
     ensures number { IfOk result (λ k. k ≡ length (env theory.old)) }
     ensures taken { (result ≡ Err ItemFault.NameTaken) ↔ Contains (names_of theory.old.entries) name.now }
     ensures goes { Goes theory.old theory.new }
-    ensures context { context theory.new ≡ Nil }
     ensures err { OnErr result (Continues theory.old theory.new) }
+    ensures most { job.new.left ≤ job.old.left }
 {
     if is_taken(theory, name) {
         return Err(ItemFault::NameTaken);
     }
-    let judge = type_sort(alloc, theory, RuleName::DefPrim, of)?;
+    let judge = type_sort(alloc, theory, RuleName::DefPrim, of, job)?;
     match theory.keep_primitive(alloc, name, of, judge) {
         Ok(number) => Ok(number),
-        Err(_) => Err(ItemFault::Memory),
+        Err(_) => Err(ItemFault::Stop(Stop::Memory)),
     }
 }
 
 /// Judges a line: its stated type must have a sort, or be `box`, and its body must have that type. It is kept as
-/// an entry under its name, and its number is given. The name has 1 to 255 bytes.
+/// an entry under its name, with the types of the open flags as parameters, and its number is given. The name has 1 to
+/// 255 bytes.
 pub fn define(
     alloc: Global,
     theory: &mut Theory,
     name: &[u8],
     body: TermId,
     of: TermId,
+    job: &mut Job,
 ) -> Result<u32, ItemFault>
-    requires flat { context theory.old ≡ Nil }
-    requires body { IsTermAt theory.old.items body }
-    requires of { IsTermAt theory.old.items of }
-    requires body_names { NamesEntries (length (env theory.old)) (tree_at theory.old.items body) }
-    requires of_names { NamesEntries (length (env theory.old)) (tree_at theory.old.items of) }
+    requires body { IsReadable theory.old body }
+    requires of { IsReadable theory.old of }
     requires some { 0 < length name.now }
     requires short { length name.now ≤ 255 }
     requires room { length (env theory.old) + 1 < 2 ^ 32 }
-    ensures judges { Judges theory.old theory.new (line_judged (env theory.old) 0 (tree_at theory.old.items body) (tree_at theory.old.items of)) (line_of name.now (tree_at theory.old.items body) (tree_at theory.old.items of)) result }
+    requires deep { count theory.old.context + 1001 < 2 ^ 32 }
+    ensures judges { Judges theory.new.items (line_judged (env theory.old) theory.old.context (tree_at theory.old.items body) (tree_at theory.old.items of))
+        (Contains (names_of theory.old.entries) name.now)
+        (AddsEntry theory.old theory.new (line_of name.now theory.old.context (tree_at theory.old.items body) (tree_at theory.old.items of))) job.old job.new result }
     ensures number { IfOk result (λ k. k ≡ length (env theory.old)) }
     ensures taken { (result ≡ Err ItemFault.NameTaken) ↔ Contains (names_of theory.old.entries) name.now }
     ensures goes { Goes theory.old theory.new }
-    ensures context { context theory.new ≡ Nil }
     ensures err { OnErr result (Continues theory.old theory.new) }
+    ensures most { job.new.left ≤ job.old.left }
 {
     if is_taken(theory, name) {
         return Err(ItemFault::NameTaken);
     }
-    let judge = line_judgement(alloc, theory, body, of)?;
+    let judge = line_judgement(alloc, theory, body, of, job)?;
     match theory.keep_line(alloc, name, body, of, judge) {
         Ok(number) => Ok(number),
-        Err(_) => Err(ItemFault::Memory),
+        Err(_) => Err(ItemFault::Stop(Stop::Memory)),
     }
 }
 
@@ -127,33 +167,34 @@ fn type_sort(
     theory: &mut Theory,
     rule: RuleName,
     of: TermId,
+    job: &mut Job,
 ) -> Result<JudgeId, ItemFault>
-    requires flat { context theory.old ≡ Nil }
-    requires of { IsTermAt theory.old.items of }
-    requires names { NamesEntries (length (env theory.old)) (tree_at theory.old.items of) }
-    ensures answer { MatchResult result (λ j. HasSort theory.old theory.new (type_judged (env theory.old) 0 rule (tree_at theory.old.items of)) of j)
-        (FaultOf theory.new.items (type_judged (env theory.old) 0 rule (tree_at theory.old.items of))) }
+    requires of { IsReadable theory.old of }
+    requires deep { count theory.old.context + 1001 < 2 ^ 32 }
+    ensures answer { SortsType theory.old theory.new (type_judged (env theory.old) theory.old.context rule (tree_at theory.old.items of)) of job.old job.new result }
     ensures continues { Continues theory.old theory.new }
+    ensures most { job.new.left ≤ job.old.left }
 {
-    // heights are at most 500, so that the variables that a term's reading adds can be counted
-    let _height = theory.bank().height(of);
-    match sort_of(alloc, theory, (rule, 2), of) {
-        Ok(sort) => Ok(sort.judge),
+    match sort_of(alloc, theory, (rule, 2), of, 1, job) {
+        Ok(sort) => Ok(sort.1),
         Err(fault) => Err(ItemFault::from(within(PathStep::Of, fault))),
     }
 }
 
 // The type of the body of a line.
-fn body_type(alloc: Global, theory: &mut Theory, body: TermId) -> Result<Typed, ItemFault>
-    requires flat { context theory.old ≡ Nil }
-    requires body { IsTermAt theory.old.items body }
-    requires names { NamesEntries (length (env theory.old)) (tree_at theory.old.items body) }
-    ensures answer { MatchResult result (IsTyped theory.old theory.new (body_reading (env theory.old) 0 (tree_at theory.old.items body)) body)
-        (FaultOf theory.new.items (accepted_by (body_reading (env theory.old) 0 (tree_at theory.old.items body)))) }
+fn body_type(
+    alloc: Global,
+    theory: &mut Theory,
+    body: TermId,
+    job: &mut Job,
+) -> Result<Typed, ItemFault>
+    requires body { IsReadable theory.old body }
+    requires deep { count theory.old.context + 1001 < 2 ^ 32 }
+    ensures answer { BodyTypes theory.old theory.new (body_judged (env theory.old) theory.old.context (tree_at theory.old.items body)) body job.old job.new result }
     ensures continues { Continues theory.old theory.new }
+    ensures most { job.new.left ≤ job.old.left }
 {
-    let _height = theory.bank().height(body);
-    match infer(alloc, theory, (RuleName::Def, 2), body) {
+    match infer(alloc, theory, (RuleName::Def, 2), body, 1, job) {
         Ok(typed) => Ok(typed),
         Err(fault) => Err(ItemFault::from(within(PathStep::Body, fault))),
     }
@@ -165,21 +206,20 @@ fn line_judgement(
     theory: &mut Theory,
     body: TermId,
     of: TermId,
+    job: &mut Job,
 ) -> Result<JudgeId, ItemFault>
-    requires flat { context theory.old ≡ Nil }
-    requires body { IsTermAt theory.old.items body }
-    requires of { IsTermAt theory.old.items of }
-    requires body_names { NamesEntries (length (env theory.old)) (tree_at theory.old.items body) }
-    requires of_names { NamesEntries (length (env theory.old)) (tree_at theory.old.items of) }
-    ensures answer { MatchResult result (λ j. HasType theory.old theory.new (line_judged (env theory.old) 0 (tree_at theory.old.items body) (tree_at theory.old.items of)) body of j)
-        (FaultOf theory.new.items (line_judged (env theory.old) 0 (tree_at theory.old.items body) (tree_at theory.old.items of))) }
+    requires body { IsReadable theory.old body }
+    requires of { IsReadable theory.old of }
+    requires deep { count theory.old.context + 1001 < 2 ^ 32 }
+    ensures answer { TypesLine theory.old theory.new (line_judged (env theory.old) theory.old.context (tree_at theory.old.items body) (tree_at theory.old.items of)) body of job.old job.new result }
     ensures continues { Continues theory.old theory.new }
+    ensures most { job.new.left ≤ job.old.left }
 {
     if is_box(theory, of) {
-        return box_judgement(alloc, theory, body, of);
+        return box_judgement(alloc, theory, body, of, job);
     }
-    type_sort(alloc, theory, RuleName::Def, of)?;
-    let typed = body_type(alloc, theory, body)?;
+    type_sort(alloc, theory, RuleName::Def, of, job)?;
+    let typed = body_type(alloc, theory, body, job)?;
     if theory.bank().same(typed.of, of) {
         Ok(typed.judge)
     } else {
@@ -190,7 +230,7 @@ fn line_judgement(
 // Whether a term is the word box.
 fn is_box(theory: &Theory, t: TermId) -> bool
     requires { IsTermAt theory.now.items t }
-    ensures { result ≡ judged.is_box (tree_at theory.now.items t) }
+    ensures { result ≡ is_box (tree_at theory.now.items t) }
 {
     matches!(theory.bank().node(t), Node::Box_)
 }
@@ -201,37 +241,38 @@ fn box_judgement(
     theory: &mut Theory,
     body: TermId,
     of: TermId,
+    job: &mut Job,
 ) -> Result<JudgeId, ItemFault>
-    requires flat { context theory.old ≡ Nil }
-    requires body { IsTermAt theory.old.items body }
+    requires body { IsReadable theory.old body }
     requires of { IsTermAt theory.old.items of }
-    requires stated { judged.is_box (tree_at theory.old.items of) ≡ true }
-    requires names { NamesEntries (length (env theory.old)) (tree_at theory.old.items body) }
-    ensures answer { MatchResult result (λ j. HasType theory.old theory.new (line_judged (env theory.old) 0 (tree_at theory.old.items body) (tree_at theory.old.items of)) body of j)
-        (FaultOf theory.new.items (line_judged (env theory.old) 0 (tree_at theory.old.items body) (tree_at theory.old.items of))) }
+    requires stated { is_box (tree_at theory.old.items of) ≡ true }
+    requires deep { count theory.old.context + 1001 < 2 ^ 32 }
+    ensures answer { TypesLine theory.old theory.new (has_box (env theory.old) theory.old.context (tree_at theory.old.items body)) body of job.old job.new result }
     ensures continues { Continues theory.old theory.new }
+    ensures most { job.new.left ≤ job.old.left }
 {
-    let typed = body_type(alloc, theory, body)?;
+    let typed = body_type(alloc, theory, body, job)?;
     if theory.bank().same(typed.of, of) {
         Ok(typed.judge)
     } else {
-        Err(not_box(alloc, typed.of, of))
+        Err(not_box(alloc, theory, typed.of, of))
     }
 }
 
 // The refusal of a body whose type is not box.
-fn not_box(alloc: Global, found: TermId, wanted: TermId) -> ItemFault
-    ensures { (items : List Item) → IsNotBox items found wanted result }
+fn not_box(alloc: Global, theory: &Theory, found: TermId, wanted: TermId) -> ItemFault
+    requires { count theory.now.context < 2 ^ 32 }
+    ensures { (items : List Item) → IsOtherType items theory.now.context found wanted result }
 {
     let mut path = Path::new(alloc);
     if path.within(PathStep::Body).is_err() {
-        return ItemFault::Memory;
+        return ItemFault::Stop(Stop::Memory);
     }
     ItemFault::Refused(Failure {
         rule: RuleName::Def,
         premise: 2,
         path,
-        depth: 0,
+        depth: theory.depth(),
         why: Why::NotSame {
             found,
             wanted,

@@ -2,7 +2,7 @@ use Rattle.std.proofs.Common.{List, Contains, ◌∙◌, sym, subst}
 use Rattle.ld_terms.specs.Entry.{Env, IsFresh}
 use Rattle.ld_env.specs.Named.{Named, names_of}
 use Rattle.ld_env.proofs.CallerLemmas.{is_fresh}
-use Rattle.ld_defrules.proofs.Judging.{absent_by}
+use Rattle.ld_defrules.proofs.Names.{absent_by}
 use Rattle.ld_defrules.proofs.is_taken.Goals as goal
 
 pub returns-clause-fresh : goal.returns-clause-fresh
