@@ -1,5 +1,5 @@
 -- What the writing of a chunk does to the file.
-use Rattle.std.specs.Prelude.{◌≡◌, ℕ, List, [], ◌++◌, length, take, Some, IsTrue, Option, Result, Ok, Err}
+use Rattle.std.specs.Prelude.{◌≡◌, ℕ, List, ◌++◌, length, take, Some, IsTrue, Option, Result, Ok, Err}
 use Rattle.ld_terms.specs.Item.{Item}
 use Rattle.ld_record.specs.declared.record.JudgeId.{JudgeId}
 use Rattle.ld_record.specs.declared.record.Kept.{Kept}
@@ -9,12 +9,12 @@ use Rattle.fb_base.specs.declared.desk.DeskFault.TheVariants as desk
 use Rattle.dr_text.specs.declared.writer.Writer.{Writer}
 use Rattle.dr_text.specs.Written.{IsWritten, IsContent}
 use Rattle.dr_text.specs.Derives.{Derives}
-use Rattle.ld_terms.specs.Entry.{Env}
 use Rattle.ld_terms.specs.Known.{Note}
 use Rattle.fb_parse.specs.Items.{SurfaceItem}
 use Rattle.book_top.specs.declared.check.Stop.{Stop}
 use Rattle.book_top.specs.declared.check.Stop.TheVariants as stop
 use Rattle.book_top.specs.declared.status.Summary.{Summary}
+use Rattle.book_top.specs.Book.{Book, empty}
 use Rattle.book_top.specs.Spells.{Accepts}
 
 -- The file has become longer by a front of what would make it this.
@@ -42,12 +42,13 @@ abbrev pub stop_by : DeskFault → Stop
 stop_by desk.Failed = stop.Desk
 stop_by desk.Memory = stop.Memory
 
--- The items are all accepted, and the content is a derivation of what they spell.
-pub record IsCheckDone (content : List ℕ) (items : List SurfaceItem) (summary : Summary) : Type 0 where
+-- The items are all accepted under the budget, and the content is a derivation of what they spell.
+pub record IsCheckDone (budget : ℕ) (content : List ℕ) (items : List SurfaceItem) (summary : Summary) : Type 0 where
   pub notes : List Note
-  pub env : Env
-  pub accepted : Accepts [] items notes env
-  pub derives : Derives content env notes
+  pub book : Book
+  pub cost : ℕ
+  pub accepted : Accepts budget empty items notes book cost
+  pub derives : Derives content book.env notes
   pub items_are : summary.items ≡ length items
-  pub entries_are : summary.entries ≡ length env
-  pub no_steps : summary.steps ≡ 0
+  pub entries_are : summary.entries ≡ length book.env
+  pub steps_are : summary.steps ≡ cost

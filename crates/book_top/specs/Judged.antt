@@ -1,22 +1,21 @@
 -- What the reading and the judging of one item answer, in the code's values.
-use Rattle.std.specs.Prelude.{◌≡◌, ◌<◌, ◌≤◌, ℕ, ⊤, List, length, Result, Ok, Err, IsOk, Contains}
-use Rattle.ld_infer.specs.Standing.{Standing, env, AddsEntry}
+use Rattle.std.specs.Prelude.{◌≡◌, ◌<◌, ◌≤◌, ◌^◌, ◌+◌, ℕ, ⊤, List, [], ◌∷◌, ◌++◌, length, Result, Ok, Err}
+use Rattle.ld_terms.specs.Tree.{count}
+use Rattle.ld_terms.specs.Item.{Item}
+use Rattle.ld_record.specs.Follows.{entry_at}
+use Rattle.ld_infer.specs.Standing.{Standing, known, env}
 use Rattle.ld_infer.specs.Infers.{refusal_of}
-use Rattle.ld_defrules.specs.Judged as rules
 use Rattle.fb_base.specs.declared.places.Span.{Span}
-use Rattle.fb_parse.specs.declared.tree.Item.{Item}
-use Rattle.fb_parse.specs.View.{view}
-use Rattle.fb_parse.specs.ItemView.{item_view, at_span}
+use Rattle.fb_parse.specs.ItemView.{at_span}
 use Rattle.fb_parse.specs.Items.{SurfaceItem}
-use Rattle.book_top.specs.declared.item.ItemTerms.{ItemTerms}
-use Rattle.book_top.specs.declared.item.ItemTerms.TheVariants as terms
+use Rattle.fb_scope.specs.State.{State}
+use Rattle.fb_scope.specs.Resolve.{made_under}
 use Rattle.book_top.specs.declared.item.ItemStop.{ItemStop}
 use Rattle.book_top.specs.declared.item.ItemStop.TheVariants as stop
-use Rattle.book_top.specs.declared.status.TextWhat.TheVariants.{NotBuilt}
-use Rattle.book_top.specs.Names.{Reading, Prim, Line, tree_of, read_item, fault_at}
-use Rattle.book_top.specs.Verdict.{Verdicts, IsSmallReading, judging, entry_of, names_of}
-use Rattle.book_top.specs.Verdict as verdict
-use Rattle.book_top.specs.Built.{read}
+use Rattle.book_top.specs.declared.status.Want.TheVariants as want
+use Rattle.book_top.specs.Book.{Book, Reading, book_of}
+use Rattle.book_top.specs.Verdict.{Accepted, TextRefused, ManyFlags, TooHigh, RuleRefused, StopsHigh, StopsNested, read_item, HasVerdict, Outcome, Answers, Steps, HasOutcome}
+use Rattle.book_top.specs.Spells.{item_book, item_note}
 
 -- the span is one of the text, and its bytes may be a name
 pub record IsNameSpan (text : List ℕ) (s : Span) : Type 0 where
@@ -25,41 +24,44 @@ pub record IsNameSpan (text : List ℕ) (s : Span) : Type 0 where
   pub some : 0 < length (at_span text s)
   pub short : length (at_span text s) ≤ 255
 
--- the names of an item's terms are all there
-abbrev pub AreRead : List (List ℕ) → ItemTerms → Type 0
-AreRead names (terms.Prim type) = IsOk (tree_of names (view type))
-AreRead names (terms.Line body type) = IsOk (tree_of names (view body)) × IsOk (tree_of names (view type))
+-- A theory and a scope go together: the flags are the context's variables, and each entry is noted under as many as it has parameters.
+pub record IsInStep (s : Standing) (scope : State) : Type 0 where
+  pub binders : scope.binders ≡ []
+  pub flags : length scope.flags ≡ count s.context
+  pub few : length scope.flags ≤ 64
+  pub marks : length scope.marks ≡ length (env s)
+  pub each : (k : ℕ) → k < length (env s) → length (made_under scope k) ≡ count (entry_at (env s) k).params
 
--- what the item of these terms is read as
-abbrev pub reading_by : List (List ℕ) → ItemTerms → Reading
-reading_by names (terms.Prim type) = Prim (read (tree_of names (view type)))
-reading_by names (terms.Line body type) = Line (read (tree_of names (view body))) (read (tree_of names (view type)))
+-- there is room for one more flag and one more entry
+pub record HasRoom (s : Standing) (scope : State) : Type 0 where
+  pub entry : length (env s) + 1 < 2 ^ 32
+  pub flag : scope.opened + 1 < 2 ^ 32
 
--- the item is read as one of these terms, and no entry has its name
-pub record Reads (names : List (List ℕ)) (text : List ℕ) (i : Item) (ts : ItemTerms) : Type 0 where
-  pub free : Contains names (at_span text i.name) → ⊥
-  pub are : AreRead names ts
-  pub item : read_item names (item_view text i) i.bars ≡ Ok (reading_by names ts)
-
--- An item that was read is accepted, and its entry added; or it is refused, with what is said of a form that is not built.
-abbrev pub JudgesReading : (old new : Standing) → List ℕ → Span → Reading → Result (Unit {0}) ItemStop → Type 0
-JudgesReading old new name at r (Ok u) = IsSmallReading r × (judging (env old) r ≡ rules.Accepted) × AddsEntry old new (entry_of name r)
-JudgesReading old new name at r (Err stop.High) = ¬ IsSmallReading r
-JudgesReading old new name at r (Err (stop.Refused f)) = IsSmallReading r × (judging (env old) r ≡ rules.Refused (refusal_of new.items f))
-JudgesReading old new name at r (Err (stop.Text f)) = IsSmallReading r × (judging (env old) r ≡ rules.NotBuilt) × (f ≡ fault_at NotBuilt at)
-JudgesReading old new name at r (Err stop.Memory) = ⊤
-
--- the item is accepted, and its entry added
-pub record IsAccepted (old new : Standing) (i : SurfaceItem) : Type 0 where
+-- The item is accepted at this cost, and what it spells is added.
+pub record IsAccepted (budget : ℕ) (old new : Standing) (before after : State) (i : SurfaceItem) (n : ℕ) : Type 0 where
   pub reading : Reading
-  pub read : read_item (names_of (env old)) i i.bars ≡ Ok reading
-  pub verdict_is : Verdicts (env old) i verdict.Accepted
-  pub adds : AddsEntry old new (entry_of i.name reading)
+  pub read : read_item (book_of old before) i ≡ Ok reading
+  pub verdict_is : HasVerdict (book_of old before) i Accepted n
+  pub within : n ≤ budget
+  pub becomes : book_of new after ≡ item_book i reading (book_of old before)
+  pub notes : (known new).notes ≡ (known old).notes ++ item_note i reading (book_of old before) ∷ []
 
--- An item is accepted, or its verdict is another; want of memory is free.
-abbrev pub JudgesItem : (old new : Standing) → SurfaceItem → Result (Unit {0}) ItemStop → Type 0
-JudgesItem old new i (Ok u) = IsAccepted old new i
-JudgesItem old new i (Err stop.High) = Verdicts (env old) i verdict.TooHigh
-JudgesItem old new i (Err (stop.Refused f)) = Verdicts (env old) i (verdict.RuleRefused (refusal_of new.items f))
-JudgesItem old new i (Err (stop.Text f)) = Verdicts (env old) i (verdict.TextRefused f)
-JudgesItem old new i (Err stop.Memory) = ⊤
+-- The outcome for which an item is stopped. Want of memory is none: what stands for it is used nowhere.
+abbrev pub outcome_of : List Item → ItemStop → Outcome
+outcome_of items (stop.Text f) = Answers (TextRefused f)
+outcome_of items stop.ManyFlags = Answers ManyFlags
+outcome_of items stop.High = Answers TooHigh
+outcome_of items (stop.Refused f) = Answers (RuleRefused (refusal_of items f))
+outcome_of items (stop.Budget want.Steps) = Steps
+outcome_of items (stop.Budget want.Height) = Answers StopsHigh
+outcome_of items (stop.Budget want.Nesting) = Answers StopsNested
+outcome_of items stop.Memory = Steps
+
+-- An item is accepted, or it has another outcome; want of memory is free.
+abbrev pub StopsItemBy : (budget : ℕ) → Book → List Item → SurfaceItem → ItemStop → Type 0
+StopsItemBy budget b items i stop.Memory = ⊤
+StopsItemBy budget b items i s = HasOutcome budget b i (outcome_of items s)
+
+abbrev pub JudgesItem : (budget : ℕ) → (old new : Standing) → (before after : State) → SurfaceItem → Result ℕ ItemStop → Type 0
+JudgesItem budget old new before after i (Ok n) = IsAccepted budget old new before after i n
+JudgesItem budget old new before after i (Err s) = StopsItemBy budget (book_of old before) new.items i s

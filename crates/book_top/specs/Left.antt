@@ -8,6 +8,7 @@ use Rattle.fb_base.specs.declared.desk.DeskFault.TheVariants as desk
 use Rattle.fb_parse.specs.Items.{SurfaceItem}
 use Rattle.dr_text.specs.Spelling.{header, spelling}
 use Rattle.dr_text.specs.Derives.{Derives}
+use Rattle.book_top.specs.Book.{Book, empty}
 use Rattle.book_top.specs.Spells.{Accepts}
 
 -- what files hold, by their names
@@ -28,18 +29,19 @@ pub record IsFront (bytes : List ℕ) (env : Env) (notes : List Note) : Type 0 w
   pub notes_are : (final start records).known.notes ≡ notes
   pub none : notes ≡ [] → bytes ≡ header
 
--- All items but the rest were accepted, and these bytes are the header and their records.
-pub record IsMidway (items rest : List SurfaceItem) (bytes : List ℕ) (env : Env) (notes : List Note) : Type 0 where
+-- All items but the rest were accepted under the budget, and these bytes are the header and their records.
+pub record IsMidway (budget : ℕ) (items rest : List SurfaceItem) (bytes : List ℕ) (book : Book) (notes : List Note) : Type 0 where
   pub some : List SurfaceItem
+  pub cost : ℕ
   pub split : items ≡ some ++ rest
-  pub accepted : Accepts [] some notes env
-  pub front : IsFront bytes env notes
+  pub accepted : Accepts budget empty some notes book cost
+  pub front : IsFront bytes book.env notes
 
 -- What may be written behind the records of the items so far: the records of the next item, or those to the end of the file.
-pub data IsNext (bytes next : List ℕ) (rest : List SurfaceItem) (env : Env) (notes : List Note) : Type 0 where
-  item : (i : SurfaceItem) (others : List SurfaceItem) (more_env : Env) (more_notes : List Note) → rest ≡ i ∷ others → Accepts env (i ∷ []) more_notes more_env →
-      IsFront (bytes ++ next) more_env (notes ++ more_notes) → IsNext bytes next rest env notes
-  end : rest ≡ [] → Derives (bytes ++ next) env notes → IsNext bytes next rest env notes
+pub data IsNext (budget : ℕ) (bytes next : List ℕ) (rest : List SurfaceItem) (book : Book) (notes : List Note) : Type 0 where
+  item : (i : SurfaceItem) (others : List SurfaceItem) (more_book : Book) (more_notes : List Note) (cost : ℕ) → rest ≡ i ∷ others →
+      Accepts budget book (i ∷ []) more_notes more_book cost → IsFront (bytes ++ next) more_book.env (notes ++ more_notes) → IsNext budget bytes next rest book notes
+  end : rest ≡ [] → Derives (bytes ++ next) book.env notes → IsNext budget bytes next rest book notes
 
 -- a file that is to be begun: as it was or empty; where the desk failed there may be a front of the header
 abbrev pub BeginsFile : (before after : Option (List ℕ)) → DeskFault → Type 0
@@ -48,15 +50,15 @@ BeginsFile before after desk.Memory = (after ≡ before) ⊎ (after ≡ Some [])
 
 -- What a file holds in which the derivation of these items was begun, where nothing that was to be appended was written in part:
 -- nothing; the header with the records of some items, all accepted; or the whole derivation.
-pub data IsKept (items : List SurfaceItem) (file : Option (List ℕ)) : Type 0 where
-  empty : file ≡ Some [] → IsKept items file
-  between : {rest : List SurfaceItem} {env : Env} {notes : List Note} → IsMidway items rest (unwrap_or file []) env notes → IsKept items file
-  whole : {env : Env} {notes : List Note} → Accepts [] items notes env → Derives (unwrap_or file []) env notes → IsKept items file
+pub data IsKept (budget : ℕ) (items : List SurfaceItem) (file : Option (List ℕ)) : Type 0 where
+  nothing : file ≡ Some [] → IsKept budget items file
+  between : {rest : List SurfaceItem} {book : Book} {notes : List Note} → IsMidway budget items rest (unwrap_or file []) book notes → IsKept budget items file
+  whole : {book : Book} {notes : List Note} {cost : ℕ} → Accepts budget empty items notes book cost → Derives (unwrap_or file []) book.env notes → IsKept budget items file
 
 -- What it holds where a desk failed: that; a front of the header; or the header with the records of some items, all accepted, and a
 -- front of what comes next.
-pub data IsLeft (items : List SurfaceItem) (file : Option (List ℕ)) : Type 0 where
-  kept : IsKept items file → IsLeft items file
-  begun : (n : ℕ) → file ≡ Some (take n header) → IsLeft items file
-  within : {rest : List SurfaceItem} {env : Env} {notes : List Note} (bytes : List ℕ) (n : ℕ) (next : List ℕ) → IsMidway items rest bytes env notes →
-      IsNext bytes next rest env notes → file ≡ Some (bytes ++ take n next) → IsLeft items file
+pub data IsLeft (budget : ℕ) (items : List SurfaceItem) (file : Option (List ℕ)) : Type 0 where
+  kept : IsKept budget items file → IsLeft budget items file
+  begun : (n : ℕ) → file ≡ Some (take n header) → IsLeft budget items file
+  within : {rest : List SurfaceItem} {book : Book} {notes : List Note} (bytes : List ℕ) (n : ℕ) (next : List ℕ) → IsMidway budget items rest bytes book notes →
+      IsNext budget bytes next rest book notes → file ≡ Some (bytes ++ take n next) → IsLeft budget items file

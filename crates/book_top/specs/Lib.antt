@@ -1,13 +1,16 @@
+pub mod Book
 pub mod Names
 pub mod Verdict
 pub mod Spells
 pub mod Words
+pub mod CommandLine
 pub mod Report
 pub mod Desk
 pub mod Left
 pub mod Top
 pub mod Built
 pub mod Judged
+pub mod Told
 pub mod Chunks
 pub mod Checked
 pub mod Said

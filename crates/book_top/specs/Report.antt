@@ -14,6 +14,9 @@ use Rattle.book_top.specs.declared.status.Summary.{Summary}
 use Rattle.book_top.specs.declared.status.TextWhat.{TextWhat}
 use Rattle.book_top.specs.declared.status.TextWhat.TheVariants as what
 use Rattle.book_top.specs.declared.status.RuleFault.{RuleFault}
+use Rattle.book_top.specs.declared.status.BudgetFault.{BudgetFault}
+use Rattle.book_top.specs.declared.status.Want.{Want}
+use Rattle.book_top.specs.declared.status.Want.TheVariants as want
 use Rattle.book_top.specs.declared.status.LimitFault.{LimitFault}
 use Rattle.book_top.specs.declared.status.LimitFault.TheVariants as limit
 
@@ -56,12 +59,17 @@ steps_text before (s ∷ rest) = (dot_text before ++ step_text s) ++ steps_text 
 abbrev pub path_text : List PathStep → List ℕ
 path_text path = steps_text 0 path
 
+abbrev pub depth_text : (bars flags : ℕ) → List ℕ
+depth_text bars flags = codes "depth " ++ decimal bars ++ codes " over " ++ decimal flags
+
 -- why a text has no reading, with the name at the fault where it is one
 abbrev pub what_text : (text : List ℕ) → Span → TextWhat → List ℕ
 what_text text at what.BadByte = codes "bad byte"
 what_text text at what.LongName = codes "long name"
 what_text text at what.Syntax = codes "syntax"
 what_text text at what.Unknown = codes "unknown name " ++ at_span text at
+what_text text at what.FlagTaken = codes "flag taken " ++ at_span text at
+what_text text at (what.DepthTooGreat bars flags) = depth_text bars flags
 what_text text at what.NameTaken = codes "name taken " ++ at_span text at
 what_text text at what.NotBuilt = codes "not built"
 
@@ -73,6 +81,15 @@ limit_text text limit.BookBytes = codes "limit: book bytes\n"
 limit_text text (limit.Nesting at) = place_text text at ++ codes "limit: nesting\n"
 limit_text text (limit.Items at) = place_text text at ++ codes "limit: items\n"
 limit_text text (limit.Height at) = place_text text at ++ codes "limit: height\n"
+limit_text text (limit.Flags at) = place_text text at ++ codes "limit: flags\n"
+
+abbrev pub want_name : Want → List ℕ
+want_name want.Steps = codes "steps"
+want_name want.Height = codes "height"
+want_name want.Nesting = codes "nesting"
+
+abbrev pub budget_text : (text : List ℕ) → BudgetFault → List ℕ
+budget_text text f = place_text text f.at.start ++ codes "budget: " ++ want_name f.want ++ codes "\n"
 
 -- the report of an answer on the book with this text
 abbrev pub report_of : (text : List ℕ) → Status → List ℕ
@@ -80,6 +97,7 @@ report_of text (status.Done s) = done_text s
 report_of text (status.Text f) = place_text text f.at.start ++ codes "text: " ++ what_text text f.at f.what ++ codes "\n"
 report_of text status.Usage = codes "usage: flagbook check BOOK OUT, verify DERIV, print BOOK NAME, term BOOK TEXT, gen N OUT, with --budget N\n"
 report_of text (status.Rule f) = place_text text f.at.start ++ rule_text f
+report_of text (status.Budget f) = budget_text text f
 report_of text status.Desk = []
 report_of text (status.Limit l) = limit_text text l
 report_of text status.Memory = codes "memory\n"
@@ -89,6 +107,7 @@ code_of (status.Done s) = 0
 code_of (status.Text f) = 1
 code_of status.Usage = 2
 code_of (status.Rule f) = 3
+code_of (status.Budget f) = 4
 code_of status.Desk = 5
 code_of (status.Limit l) = 6
 code_of status.Memory = 7

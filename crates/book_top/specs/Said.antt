@@ -11,9 +11,11 @@ use Rattle.book_top.specs.Top.{Outcome, IsSaid, IsAnswerOf}
 abbrev pub HasNoPlace : Status → Type 0
 HasNoPlace (status.Text f) = ⊥
 HasNoPlace (status.Rule f) = ⊥
+HasNoPlace (status.Budget f) = ⊥
 HasNoPlace (status.Limit (limit.Nesting at)) = ⊥
 HasNoPlace (status.Limit (limit.Items at)) = ⊥
 HasNoPlace (status.Limit (limit.Height at)) = ⊥
+HasNoPlace (status.Limit (limit.Flags at)) = ⊥
 HasNoPlace _ = Unit {0}
 
 -- The report is said of the book's text, where the answer that was given has a place in it. Where the report couldn't be said, that
@@ -22,7 +24,7 @@ pub record SaysOf (old new : Seen) (words : List (List ℕ)) (answer : Status) :
   pub text : List ℕ
   pub given : Status
   pub said : IsSaid text given old.said new.said answer
-  pub is : (HasNoPlace given → ⊥) → IsTrue old.tells_files → (book out : List ℕ) → IsCheck words book out → old.files book ≡ Some text
+  pub is : (HasNoPlace given → ⊥) → IsTrue old.tells_files → (book out : List ℕ) (budget : ℕ) → IsCheck words book out budget → old.files book ≡ Some text
   pub due : IsTrue old.tells_files → Outcome old.files new.files words given
   pub no_command : IsNoCommand words → given ≡ status.Usage
   pub follows : IsAnswerOf given answer

@@ -1,7 +1,7 @@
 -- What the top call answers, and what stands in the files then.
-use Rattle.std.specs.Prelude.{◌≡◌, ◌≢◌, ◌⊎◌, ◌<◌, ◌≤◌, ◌+◌, ℕ, ⊤, List, [], ◌++◌, length, take, Option, Some}
-use Rattle.ld_terms.specs.Entry.{Env}
+use Rattle.std.specs.Prelude.{◌≡◌, ◌≢◌, ◌⊎◌, ◌<◌, ◌≤◌, ◌+◌, ℕ, ⊤, List, ◌++◌, length, take, Option, Some}
 use Rattle.ld_terms.specs.Known.{Note}
+use Rattle.fb_base.specs.declared.places.Span.{Span}
 use Rattle.fb_lex.specs.declared.tokens.LexFault.TheVariants.{BadByte, LongName}
 use Rattle.fb_parse.specs.declared.fault.ParseFault.{ParseFault}
 use Rattle.fb_parse.specs.declared.fault.ParseFault.TheVariants as parse
@@ -17,10 +17,14 @@ use Rattle.book_top.specs.declared.status.TextWhat.{TextWhat}
 use Rattle.book_top.specs.declared.status.TextWhat.TheVariants as what
 use Rattle.book_top.specs.declared.status.RuleFault.{RuleFault}
 use Rattle.book_top.specs.declared.status.Side.TheVariants as Side
+use Rattle.book_top.specs.declared.status.WhyName.{WhyName}
 use Rattle.book_top.specs.declared.status.WhyName.TheVariants as why
+use Rattle.book_top.specs.declared.status.Want.{Want}
+use Rattle.book_top.specs.declared.status.Want.TheVariants as want
 use Rattle.book_top.specs.declared.status.LimitFault.TheVariants as limit
 use Rattle.book_top.specs.Names.{fault_at}
 use Rattle.book_top.specs.Verdict as verdict
+use Rattle.book_top.specs.Book.{Book, empty}
 use Rattle.book_top.specs.Spells.{Spells, Accepts, FirstRefused}
 use Rattle.book_top.specs.Words.{IsCheck, IsNoCommand}
 use Rattle.book_top.specs.Report.{report_of}
@@ -54,54 +58,76 @@ AnswersNoCommand status.Desk = ⊤
 AnswersNoCommand status.Memory = ⊤
 AnswersNoCommand _ = ⊥
 
-abbrev pub IsWhy : rule.Reason → RuleFault → Type 0
-IsWhy rule.NoType f = f.why ≡ why.NoType
-IsWhy (rule.NotSame found wanted left right under) f = f.why ≡ why.NotSame
+-- why a premise fails, without the terms
+abbrev pub why_of : rule.Reason → WhyName
+why_of rule.NoType = why.NoType
+why_of (rule.NotSort t) = why.NotSort
+why_of (rule.NotFunction t) = why.NotFunction
+why_of rule.BoxBody = why.BoxBody
+why_of (rule.NotSame found wanted apart) = why.NotSame
+why_of rule.Again = why.Again
 
--- the premise that fails, of the item of this number, counted from 1
-pub record IsRule (i : SurfaceItem) (number : ℕ) (r : rule.Refusal) (f : RuleFault) : Type 0 where
+-- the premise that fails, of the item of this number and span
+pub record IsRule (number : ℕ) (at : Span) (r : rule.Refusal) (f : RuleFault) : Type 0 where
   pub side : f.side ≡ Side.Book
   pub item : f.item ≡ number
-  pub at : f.at ≡ i.span
+  pub place : f.at ≡ at
   pub rule : f.rule ≡ r.rule
   pub premise : f.premise ≡ r.premise
   pub path : f.path ≡ r.path
-  pub why : IsWhy r.reason f
+  pub why : f.why ≡ why_of r.reason
 
--- the answer for the first item that is refused, before which so many stand
-abbrev pub AnswersItem : SurfaceItem → (before : ℕ) → verdict.Verdict → Status → Type 0
-AnswersItem i n (verdict.TextRefused t) (status.Text f) = f ≡ t
-AnswersItem i n verdict.TooHigh (status.Limit l) = l ≡ limit.Height i.span.start
-AnswersItem i n (verdict.RuleRefused r) (status.Rule f) = IsRule i (n + 1) r f
-AnswersItem i n _ _ = ⊥
+abbrev pub AnswersRule : (number : ℕ) → Span → rule.Refusal → Status → Type 0
+AnswersRule number at r (status.Rule f) = IsRule number at r f
+AnswersRule number at r _ = ⊥
 
--- The book is fetched and parsed, each of its items is accepted, and the file is a derivation of what they spell.
-pub record IsDone (before after : Files) (book out : List ℕ) (summary : Summary) : Type 0 where
+-- what is wanted more of for the item of this number and span
+abbrev pub wants : (number : ℕ) → Span → Want → Status
+wants number at want = status.Budget (record { side = Side.Book; item = number; at = at; want = want })
+
+-- the answer for the item of this number and span that has this outcome
+abbrev pub AnswersOutcome : (number : ℕ) → Span → verdict.Outcome → Status → Type 0
+AnswersOutcome number at (verdict.Answers verdict.Accepted) s = ⊥
+AnswersOutcome number at (verdict.Answers (verdict.TextRefused t)) s = s ≡ status.Text t
+AnswersOutcome number at (verdict.Answers verdict.ManyFlags) s = s ≡ status.Limit (limit.Flags at.start)
+AnswersOutcome number at (verdict.Answers verdict.TooHigh) s = s ≡ status.Limit (limit.Height at.start)
+AnswersOutcome number at (verdict.Answers (verdict.RuleRefused r)) s = AnswersRule number at r s
+AnswersOutcome number at (verdict.Answers verdict.StopsHigh) s = s ≡ wants number at want.Height
+AnswersOutcome number at (verdict.Answers verdict.StopsNested) s = s ≡ wants number at want.Nesting
+AnswersOutcome number at verdict.Steps s = s ≡ wants number at want.Steps
+
+-- the answer for the first item that is refused, before which so many stand; items are counted from 1
+abbrev pub AnswersItem : SurfaceItem → (before : ℕ) → verdict.Outcome → Status → Type 0
+AnswersItem i n outcome s = AnswersOutcome (n + 1) i.span outcome s
+
+-- The book is fetched and parsed, each of its items is accepted under the budget, and the file is a derivation of what they spell.
+pub record IsDone (budget : ℕ) (before after : Files) (book out : List ℕ) (summary : Summary) : Type 0 where
   pub text : List ℕ
   pub items : List SurfaceItem
   pub notes : List Note
-  pub env : Env
+  pub spelled : Book
+  pub cost : ℕ
   pub fetched : IsFetched before book text
   pub parsed : IsBookText text items
-  pub spells : Spells [] items notes env
-  pub accepted : Accepts [] items notes env
-  pub derives : Derives (content after out) env notes
+  pub spells : Spells empty items notes spelled
+  pub accepted : Accepts budget empty items notes spelled cost
+  pub derives : Derives (content after out) spelled.env notes
   pub items_are : summary.items ≡ length items
-  pub entries_are : summary.entries ≡ length env
-  pub no_steps : summary.steps ≡ 0
+  pub entries_are : summary.entries ≡ length spelled.env
+  pub steps_are : summary.steps ≡ cost
 
--- The first item that isn't accepted is refused with this answer, and the file has the records of the items before it.
-pub record IsItemRefused (before after : Files) (book out : List ℕ) (answer : Status) : Type 0 where
+-- The first item that isn't accepted under the budget is refused with this answer, and the file has the records of the items before it.
+pub record IsItemRefused (budget : ℕ) (before after : Files) (book out : List ℕ) (answer : Status) : Type 0 where
   pub text : List ℕ
   pub items : List SurfaceItem
   pub number : ℕ
   pub item : SurfaceItem
-  pub verdict_is : verdict.Verdict
+  pub outcome_is : verdict.Outcome
   pub fetched : IsFetched before book text
   pub parsed : IsBookText text items
-  pub first : FirstRefused items number item verdict_is
-  pub answers : AnswersItem item number verdict_is answer
-  pub left : IsFront (content after out) first.env first.notes
+  pub first : FirstRefused budget items number item outcome_is
+  pub answers : AnswersItem item number outcome_is answer
+  pub left : IsFront (content after out) first.book.env first.notes
 
 -- The text is no book, with this answer.
 pub record IsNoBook (before : Files) (book : List ℕ) (answer : Status) : Type 0 where
@@ -116,19 +142,19 @@ pub data Leaves (Begun : List SurfaceItem → Option (List ℕ) → Type 0) (bef
   untouched : after out ≡ before out → Leaves Begun before after book out
   left : (text : List ℕ) (items : List SurfaceItem) → IsFetched before book text → IsBookText text items → Begun items (after out) → Leaves Begun before after book out
 
--- What a check of the book answers, and what stands in the files then.
-pub data Checks (before after : Files) (book out : List ℕ) : Status → Type 0 where
-  done : {summary : Summary} → IsDone before after book out summary → Checks before after book out (status.Done summary)
-  too_long : (text : List ℕ) → before book ≡ Some text → book_limit < length text → after ≡ before → Checks before after book out (status.Limit limit.BookBytes)
-  no_book : {answer : Status} → IsNoBook before book answer → after ≡ before → Checks before after book out answer
-  item_refused : {answer : Status} → IsItemRefused before after book out answer → Checks before after book out answer
+-- What a check of the book under the budget answers, and what stands in the files then.
+pub data Checks (budget : ℕ) (before after : Files) (book out : List ℕ) : Status → Type 0 where
+  done : {summary : Summary} → IsDone budget before after book out summary → Checks budget before after book out (status.Done summary)
+  too_long : (text : List ℕ) → before book ≡ Some text → book_limit < length text → after ≡ before → Checks budget before after book out (status.Limit limit.BookBytes)
+  no_book : {answer : Status} → IsNoBook before book answer → after ≡ before → Checks budget before after book out answer
+  item_refused : {answer : Status} → IsItemRefused budget before after book out answer → Checks budget before after book out answer
   -- a call on the desk failed, or memory ran out
-  desk : Leaves IsLeft before after book out → Checks before after book out status.Desk
-  memory : Leaves IsKept before after book out → Checks before after book out status.Memory
+  desk : Leaves (IsLeft budget) before after book out → Checks budget before after book out status.Desk
+  memory : Leaves (IsKept budget) before after book out → Checks budget before after book out status.Memory
 
 -- What is answered, and what stands in the files then.
 pub data Outcome (before after : Files) (words : List (List ℕ)) : Status → Type 0 where
-  check : {answer : Status} (book out : List ℕ) → IsCheck words book out → Checks before after book out answer → Outcome before after words answer
+  check : {answer : Status} (book out : List ℕ) (budget : ℕ) → IsCheck words book out budget → Checks budget before after book out answer → Outcome before after words answer
   -- The words ask for nothing that is known. The report may have failed.
   no_command : {answer : Status} → IsNoCommand words → AnswersNoCommand answer → after ≡ before → Outcome before after words answer
 

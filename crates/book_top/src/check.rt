@@ -1,25 +1,27 @@
 //! The check of a parsed book, and the writing of its derivation.
-ghost use Rattle.std.specs.Prelude.{◌≡◌, ◌<◌, ◌≤◌, ◌+◌, ◌^◌, ◌++◌, [], true, IsTrue, length, All, Some, IfSome, IfErr, OnOk, OnErr, IsErrOf};
+ghost use Rattle.std.specs.Prelude.{◌≡◌, ◌≤◌, true, IsTrue, length, All, Some, IfSome, IfOk, IfErr, OnOk, IsErrOf};
 ghost use Rattle.fb_base.specs.Desk.{Rose, OthersStay, content_of};
 ghost use Rattle.fb_parse.specs.ItemView.{item_view, items_view};
-ghost use Rattle.ld_terms.specs.Tree.{Nil};
+ghost use Rattle.ld_terms.specs.Tree.{Nil, count};
 ghost use Rattle.ld_record.specs.Kept.{IsSound};
 ghost use Rattle.ld_record.specs.Growth.{Knows};
 ghost use Rattle.dr_text.specs.Spelling.{header as header_bytes};
 ghost use Rattle.dr_text.specs.Written.{IsWritten, last_judgement};
 ghost use Rattle.dr_text.specs.Derives.{Derives};
-ghost use Rattle.ld_infer.specs.Standing.{known, env, context};
+ghost use Rattle.ld_infer.specs.Standing.{known, env, Continues};
 ghost use Rattle.book_top.specs.Desk.{OnlyTarget};
 ghost use Rattle.book_top.specs.Chunks.{WritesChunk};
 ghost use Rattle.book_top.specs.Left.{BeginsFile};
 ghost use Rattle.book_top.specs.Checked.{stop_at, StopsItem, StopsEnd, IsChecked};
-ghost use Rattle.book_top.specs.Judged.{IsNameSpan, IsAccepted};
+ghost use Rattle.book_top.specs.Judged.{IsNameSpan, IsInStep, HasRoom, IsAccepted};
 
 use crate::item::{ItemStop, judge_item};
 use crate::status::Summary;
 use dr_text::{Writer, header};
 use fb_base::{Desk, DeskFault, NoMemory, Span};
 use fb_parse::Item;
+use fb_scope::Scope;
+use ld_defrules::close_to;
 use ld_infer::Theory;
 use ld_record::JudgeId;
 use std::alloc::Global;
@@ -82,19 +84,21 @@ fn write_chunk<D: Desk>(
     desk.append(&out)
 }
 
-// Judges one item, and writes its records.
+// Judges one item, and writes its records. It gives the steps of the judging.
 fn check_item<D: Desk>(
     alloc: Global,
     theory: &mut Theory,
+    scope: &mut Scope,
     writer: &mut Writer,
     desk: &mut D,
     text: &[u8],
     number: u64,
     item: &Item,
-) -> Result<(), Stop>
+    budget: u64,
+) -> Result<u64, Stop>
     requires name { IsNameSpan text.now item.now.name }
-    requires flat { context theory.old ≡ Nil }
-    requires room { length (env theory.old) + 1 < 2 ^ 32 }
+    requires step { IsInStep theory.old scope.old }
+    requires room { HasRoom theory.old scope.old }
     requires started { (D.seen desk.old).started ≡ true }
     requires written { writer.old.written ≤ length theory.old.kept }
     ensures writes { OnOk result (IsSound theory.old.items theory.old.kept → IsTrue (D.seen desk.old).tells_files
@@ -102,18 +106,19 @@ fn check_item<D: Desk>(
         → IsWritten theory.new.items theory.new.kept writer.new (content_of (D.seen desk.new) (D.seen desk.old).target)) }
     ensures written { OnOk result (writer.new.written ≡ length theory.new.kept) }
     ensures sound { OnOk result (IsSound theory.new.items theory.new.kept) }
-    ensures accepted { OnOk result (IsAccepted theory.old theory.new (item_view text.now item.now)) }
-    ensures flat { OnOk result (context theory.new ≡ Nil) }
+    ensures accepted { IfOk result (λ steps. IsAccepted budget theory.old theory.new scope.old scope.new (item_view text.now item.now) steps) }
+    ensures step { OnOk result (IsInStep theory.new scope.new) }
     ensures stays { OnlyTarget (D.seen desk.old) (D.seen desk.new) }
-    ensures stops { IfErr result (λ stop. StopsItem theory.old theory.new writer.old writer.new (D.seen desk.old) (D.seen desk.new) (item_view text.now item.now) number stop) }
+    ensures stops { IfErr result (λ stop. StopsItem budget theory.old theory.new scope.old scope.new writer.old writer.new (D.seen desk.old) (D.seen desk.new) (item_view text.now item.now) number stop) }
     ensures desk { IsErrOf result Stop.Desk → Rose (D.seen desk.old).faults (D.seen desk.new).faults }
     ensures never { IsErrOf result Stop.Desk → IsTrue (D.seen desk.old).tells_files → IsTrue (D.seen desk.old).sound → ⊥ }
 {
-    if let Err(stop) = judge_item(alloc, theory, text, item) {
-        return Err(refused(stop, number, item.span));
-    }
+    let steps = match judge_item(alloc, theory, scope, text, item, budget) {
+        Ok(steps) => steps,
+        Err(stop) => return Err(refused(stop, number, item.span)),
+    };
     write_chunk(alloc, theory, writer, None, desk)?;
-    Ok(())
+    Ok(steps)
 }
 
 // Where a check stops for an item of this number.
@@ -145,6 +150,16 @@ fn begin<D: Desk>(desk: &mut D, out: &str) -> Result<(), DeskFault>
     desk.append(header())
 }
 
+// Closes all flags, for the judgement with which a derivation ends.
+fn end_judgement(theory: &mut Theory) -> Result<JudgeId, NoMemory>
+    requires few { count theory.old.context ≤ 64 }
+    ensures number { IfOk result (λ j. Knows (known theory.new) j (last_judgement (known theory.new))) }
+    ensures continues { Continues (record theory.old { context = Nil }) theory.new }
+{
+    close_to(theory, 0);
+    theory.star_judgement()
+}
+
 // Writes the end of the file.
 fn finish<D: Desk>(
     alloc: Global,
@@ -152,33 +167,36 @@ fn finish<D: Desk>(
     writer: &mut Writer,
     desk: &mut D,
 ) -> Result<(), Stop>
-    requires flat { context theory.old ≡ Nil }
+    requires few { count theory.old.context ≤ 64 }
     requires started { (D.seen desk.old).started ≡ true }
     requires written { writer.old.written ≤ length theory.old.kept }
     ensures done { OnOk result (IsSound theory.old.items theory.old.kept → IsTrue (D.seen desk.old).tells_files
         → IsWritten theory.old.items theory.old.kept writer.old (content_of (D.seen desk.old) (D.seen desk.old).target)
         → Derives (content_of (D.seen desk.new) (D.seen desk.old).target) (env theory.old) (known theory.old).notes) }
     ensures stays { OnlyTarget (D.seen desk.old) (D.seen desk.new) }
+    ensures entries { OnOk result (env theory.new ≡ env theory.old) }
     ensures stops { IfErr result (λ stop. StopsEnd theory.old writer.old (D.seen desk.old) (D.seen desk.new) stop) }
     ensures desk { IsErrOf result Stop.Desk → Rose (D.seen desk.old).faults (D.seen desk.new).faults }
     ensures never { IsErrOf result Stop.Desk → IsTrue (D.seen desk.old).tells_files → IsTrue (D.seen desk.old).sound → ⊥ }
 {
-    let star = theory.star_judgement()?;
+    let star = end_judgement(theory)?;
     write_chunk(alloc, theory, writer, Some(star), desk)?;
     Ok(())
 }
 
-/// Checks the items of a book with this text, and writes the derivation.
+/// Checks the items of a book with this text, each within the budget, and writes the derivation.
 pub fn check_items<D: Desk>(
     alloc: Global,
     desk: &mut D,
     out: &str,
     text: &[u8],
     items: &[Item],
+    budget: u64,
 ) -> Result<Summary, Stop>
     requires names { All (λ i. IsNameSpan text.now i.name) items.now }
     requires few { length items.now ≤ 100000 }
-    ensures answer { IsTrue (D.seen desk.old).tells_files → IsChecked ((D.seen desk.old).files out.now) ((D.seen desk.new).files out.now) (items_view text.now items.now) result }
+    requires budget { budget ≤ 1000000000 }
+    ensures answer { IsTrue (D.seen desk.old).tells_files → IsChecked budget ((D.seen desk.old).files out.now) ((D.seen desk.new).files out.now) (items_view text.now items.now) result }
     ensures others { IsTrue (D.seen desk.old).tells_files → OthersStay (D.seen desk.old) (D.seen desk.new) out.now }
     ensures never_falls { (D.seen desk.old).faults ≤ (D.seen desk.new).faults }
     ensures told { (D.seen desk.new).tells_files ≡ (D.seen desk.old).tells_files }
@@ -190,23 +208,26 @@ pub fn check_items<D: Desk>(
 {
     begin(desk, out)?;
     let mut theory = Theory::new(alloc)?;
+    let mut scope = Scope::new(alloc);
     let mut writer = Writer::new(alloc);
+    let mut steps = 0;
     for (number, item) in items.iter().enumerate() {
-        check_item(
+        steps += check_item(
             alloc,
             &mut theory,
+            &mut scope,
             &mut writer,
             desk,
             text,
             number as u64 + 1,
             item,
+            budget,
         )?;
     }
     finish(alloc, &mut theory, &mut writer, desk)?;
-    let count = items.len() as u64;
     Ok(Summary {
-        items: count,
-        entries: count,
-        steps: 0,
+        items: items.len() as u64,
+        entries: theory.env().len() as u64,
+        steps,
     })
 }

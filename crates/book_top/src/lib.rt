@@ -5,11 +5,15 @@ mod check;
 mod item;
 mod names;
 mod report;
+#[cfg(test)]
+mod rule_tests;
 mod status;
 #[cfg(test)]
 mod tests;
 mod top;
 mod words;
 
-pub use status::{LimitFault, RuleFault, Side, Status, Summary, TextFault, TextWhat, WhyName};
+pub use status::{
+    BudgetFault, LimitFault, RuleFault, Side, Status, Summary, TextFault, TextWhat, Want, WhyName,
+};
 pub use top::run;

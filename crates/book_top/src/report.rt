@@ -1,10 +1,12 @@
 //! What is said of an answer.
-ghost use Rattle.std.specs.Prelude.{◌≡◌, ◌++◌, codes, IfOk, OnOk};
+ghost use Rattle.std.specs.Prelude.{◌≡◌, ◌++◌, IfOk, OnOk};
 ghost use Rattle.std.specs.Fmt.{decimal};
 ghost use Rattle.fb_parse.specs.ItemView.{at_span};
 ghost use Rattle.book_top.specs.Report as said;
 
-use crate::status::{LimitFault, RuleFault, Status, Summary, TextFault, TextWhat};
+use crate::status::{
+    BudgetFault, LimitFault, RuleFault, Status, Summary, TextFault, TextWhat, Want,
+};
 use fb_base::{NoMemory, Span, place};
 use ld_infer::{Path, PathStep, RuleName};
 use std::alloc::Global;
@@ -24,6 +26,7 @@ pub fn report(alloc: Global, text: &[u8], status: &Status) -> Result<Vec<u8>, No
         Status::Text(fault) => push_fault(alloc, text, fault, &mut out)?,
         Status::Usage => push(USAGE, &mut out)?,
         Status::Rule(fault) => push_rule(alloc, text, fault, &mut out)?,
+        Status::Budget(fault) => push_budget(alloc, text, fault, &mut out)?,
         Status::Desk => {}
         Status::Limit(limit) => push_limit(alloc, text, *limit, &mut out)?,
         Status::Memory => push("memory\n", &mut out)?,
@@ -87,11 +90,17 @@ fn push_fault(
 {
     push_place(alloc, text, fault.at.start, out)?;
     push("text: ", out)?;
-    push_what(text, fault.at, fault.what, out)?;
+    push_what(alloc, text, fault.at, fault.what, out)?;
     push("\n", out)
 }
 
-fn push_what(text: &[u8], at: Span, what: TextWhat, out: &mut Vec<u8>) -> Result<(), NoMemory>
+fn push_what(
+    alloc: Global,
+    text: &[u8],
+    at: Span,
+    what: TextWhat,
+    out: &mut Vec<u8>,
+) -> Result<(), NoMemory>
     ensures { OnOk result (out.new.items ≡ out.old.items ++ said.what_text text.now at what) }
 {
     match what {
@@ -102,11 +111,25 @@ fn push_what(text: &[u8], at: Span, what: TextWhat, out: &mut Vec<u8>) -> Result
             push("unknown name ", out)?;
             push_span(text, at, out)
         }
+        TextWhat::FlagTaken => {
+            push("flag taken ", out)?;
+            push_span(text, at, out)
+        }
+        TextWhat::DepthTooGreat { bars, flags } => push_depth(alloc, bars, flags, out),
         TextWhat::NameTaken => {
             push("name taken ", out)?;
             push_span(text, at, out)
         }
         TextWhat::NotBuilt => push("not built", out),
+    }
+}
+
+fn push_depth(alloc: Global, bars: u32, flags: u32, out: &mut Vec<u8>) -> Result<(), NoMemory>
+    ensures { OnOk result (out.new.items ≡ out.old.items ++ said.depth_text bars flags) }
+{
+    match format!(in alloc; "depth {bars} over {flags}") {
+        Ok(words) => push(&words, out),
+        Err(_) => Err(NoMemory),
     }
 }
 
@@ -134,6 +157,30 @@ fn push_rule(
     push(" at ", out)?;
     push_path(alloc, &fault.path, out)?;
     push("\n", out)
+}
+
+fn push_budget(
+    alloc: Global,
+    text: &[u8],
+    fault: &BudgetFault,
+    out: &mut Vec<u8>,
+) -> Result<(), NoMemory>
+    ensures { OnOk result (out.new.items ≡ out.old.items ++ said.budget_text text.now fault.now) }
+{
+    push_place(alloc, text, fault.at.start, out)?;
+    push("budget: ", out)?;
+    push(want_name(fault.want), out)?;
+    push("\n", out)
+}
+
+fn want_name(want: Want) -> &'static str
+    ensures { result.now ≡ said.want_name want }
+{
+    match want {
+        Want::Steps => "steps",
+        Want::Height => "height",
+        Want::Nesting => "nesting",
+    }
 }
 
 fn rule_name(rule: RuleName) -> &'static str
@@ -206,6 +253,10 @@ fn push_limit(
         LimitFault::Height(at) => {
             push_place(alloc, text, at, out)?;
             push("limit: height\n", out)
+        }
+        LimitFault::Flags(at) => {
+            push_place(alloc, text, at, out)?;
+            push("limit: flags\n", out)
         }
     }
 }

@@ -11,7 +11,7 @@ pub enum Side {
 }
 
 /// What a run that did its work counted: the items and entries of the book, and the sum of its items' costs in
-/// steps of reduction.
+/// steps (docs/calculus.md, "What it costs").
 #[derive(Clone, Copy, Debug, PartialEq, Eq)]
 pub struct Summary {
     pub items: u64,
@@ -28,10 +28,14 @@ pub enum TextWhat {
     LongName,
     /// A token with which the tokens before it begin no book.
     Syntax,
-    /// No entry has the name.
+    /// No binder, open flag or entry has the name.
     Unknown,
+    /// An open flag has the name already.
+    FlagTaken,
     /// An entry has the name already.
     NameTaken,
+    /// The item has more bars than flags are open.
+    DepthTooGreat { bars: u32, flags: u32 },
     /// A form that this version does not check yet.
     NotBuilt,
 }
@@ -49,8 +53,16 @@ pub struct TextFault {
 pub enum WhyName {
     /// The part is `box`, which has no type.
     NoType,
+    /// No sort is the type that was found for the part.
+    NotSort,
+    /// No product is the type that was found for the part.
+    NotFunction,
+    /// The part is an abstraction whose body has the type `box`.
+    BoxBody,
     /// The part has another type than the one that is wanted.
     NotSame,
+    /// A type that is typed again is refused.
+    Again,
 }
 
 /// The first item that a rule refuses: its number, counted from 1, its span, and the premise that fails, with the
@@ -66,6 +78,26 @@ pub struct RuleFault {
     pub why: WhyName,
 }
 
+/// What the judging of an item wants more of than it may have.
+#[derive(Clone, Copy, Debug, PartialEq, Eq)]
+pub enum Want {
+    /// More steps than the budget.
+    Steps,
+    /// A term higher than 500, or a variable index above 65,535.
+    Height,
+    /// Readings nested deeper than 1,000.
+    Nesting,
+}
+
+/// The first item that isn't judged within its budget and the limits of judging: its number, counted from 1, and its span.
+#[derive(Clone, Copy, Debug, PartialEq, Eq)]
+pub struct BudgetFault {
+    pub side: Side,
+    pub item: u64,
+    pub at: Span,
+    pub want: Want,
+}
+
 /// A limit that a text passed. Offsets are in bytes.
 #[derive(Clone, Copy, Debug, PartialEq, Eq)]
 pub enum LimitFault {
@@ -77,6 +109,8 @@ pub enum LimitFault {
     Items(usize),
     /// A term of the item that begins at the offset is higher than 500.
     Height(usize),
+    /// The item that begins at the offset would open flag 65.
+    Flags(usize),
 }
 
 /// The answer of a run.
@@ -84,12 +118,15 @@ pub enum LimitFault {
 pub enum Status {
     /// The book is accepted, and its derivation written.
     Done(Summary),
-    /// The book has no reading: its text is none, or a name of its first refused item can't be looked up.
+    /// The book has no reading: its text is none, or its first refused item has more bars than flags are open, a taken or
+    /// unknown name, or a form that isn't built.
     Text(TextFault),
     /// The words ask for nothing that is known.
     Usage,
     /// A rule refuses the first item that is refused.
     Rule(RuleFault),
+    /// The budget is below the cost of the first item that is refused, or a limit of judging is passed there.
+    Budget(BudgetFault),
     /// A file could not be read or written, or the report not said.
     Desk,
     /// The book passes a limit.
@@ -111,6 +148,7 @@ impl Status {
             Status::Text(_) => 1,
             Status::Usage => 2,
             Status::Rule(_) => 3,
+            Status::Budget(_) => 4,
             Status::Desk => 5,
             Status::Limit(_) => 6,
             Status::Memory => 7,

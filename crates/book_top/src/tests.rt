@@ -12,9 +12,18 @@ const ONE_PRIMITIVE: [u8; 27] =
     *b"LDDERIV1\x01\x02\x30\x00\x00\x00\x01\x41\x01A\x00\x38\x01\x00\x00\x01\x00\x60\x01";
 
 // A desk whose file `book` holds the book and whose file `out` holds `old`. In each failing call so many bytes pass.
-fn desk_with(alloc: Global, book: &[u8], fails: &[(u64, usize)]) -> Result<MemDesk, NoMemory> {
+pub fn desk_with(alloc: Global, book: &[u8], fails: &[(u64, usize)]) -> Result<MemDesk, NoMemory> {
+    desk_of(alloc, [("book", book), ("out", b"old")], fails)
+}
+
+// A desk with these files.
+fn desk_of(
+    alloc: Global,
+    named: [(&str, &[u8]); 2],
+    fails: &[(u64, usize)],
+) -> Result<MemDesk, NoMemory> {
     let mut files = Vec::new(alloc);
-    for (name, content) in [("book", book), ("out", b"old".as_slice())] {
+    for (name, content) in named {
         let name = Text::from_bytes(alloc, name.as_bytes())?;
         let content = Text::from_bytes(alloc, content)?;
         files.push((name, content)).map_err(|_| NoMemory)?;
@@ -24,7 +33,7 @@ fn desk_with(alloc: Global, book: &[u8], fails: &[(u64, usize)]) -> Result<MemDe
 }
 
 // Checks the book, compares the status and what is said, and gives the desk.
-fn check(
+pub fn check(
     rt: &impl Abort,
     alloc: Global,
     book: &[u8],
@@ -83,11 +92,11 @@ fn refused_items(rt: HostRuntime) -> Result<(), Fail> {
         (
             "f := fun x : * . x : *",
             1,
-            "1:6: text: not built\n",
+            "1:1: text: not built\n",
             header,
         ),
-        ("[A : *]", 1, "1:1: text: not built\n", header),
-        ("| A := prim : *", 1, "1:3: text: not built\n", header),
+        ("x := y(*) : *", 1, "1:6: text: not built\n", header),
+        ("| A := prim : *", 1, "1:3: text: depth 1 over 0\n", header),
         (
             "A := prim : *\nA := prim : *",
             1,
@@ -109,7 +118,7 @@ fn refused_items(rt: HostRuntime) -> Result<(), Fail> {
         (
             "A := prim : *\nx := A A : *",
             1,
-            "2:6: text: not built\n",
+            "2:1: text: not built\n",
             first,
         ),
         (
@@ -146,9 +155,54 @@ fn no_books(rt: HostRuntime) -> Result<(), Fail> {
             "2:11: text: bad byte\n",
         ),
         (b"x".as_slice(), "1:2: text: syntax\n"),
+        (b"A := : *".as_slice(), "1:6: text: syntax\n"),
+        (b"A := prim : * )".as_slice(), "1:15: text: syntax\n"),
+        (b"A := by foo x : *".as_slice(), "1:9: text: syntax\n"),
+        (b"A := (prim".as_slice(), "1:7: text: syntax\n"),
+        (b"f := fun . x".as_slice(), "1:10: text: syntax\n"),
+        // A blank between them parts the arrow's characters.
+        (b"A := prim : * - > *".as_slice(), "1:15: text: bad byte\n"),
     ] {
         let desk = check(&rt, rt.alloc(), book, 1, report)?;
         assert!(rt; desk.file("out") == Some(b"old".as_slice()));
+    }
+    Ok(())
+}
+
+// Names and comments in other letters; a column counts characters.
+#[test]
+fn other_letters(rt: HostRuntime) -> Result<(), Fail> {
+    for (book, code, report) in [
+        ("α := prim : *", 0, "done: 1 items, 1 entries, 0 steps\n"),
+        (
+            "# 証明の本\n命題_1 := prim : * # первое\r\n\nÄ' := 命題_1 -> 命題_1 : *",
+            0,
+            "done: 2 items, 2 entries, 0 steps\n",
+        ),
+        ("_x := prim : *\n", 0, "done: 1 items, 1 entries, 0 steps\n"),
+        ("α := β : *", 1, "1:6: text: unknown name β\n"),
+        ("# é\nx := é -> ж : *", 1, "2:6: text: unknown name é\n"),
+        (
+            "é := prim : *\nx := é -> ж : *",
+            1,
+            "2:11: text: unknown name ж\n",
+        ),
+        ("→ := prim : *", 1, "1:1: text: bad byte\n"),
+    ] {
+        check(&rt, rt.alloc(), book.as_bytes(), code, report)?;
+    }
+    Ok(())
+}
+
+#[test]
+fn long_names(rt: HostRuntime) -> Result<(), Fail> {
+    for (length, code, report) in [
+        (255, 0, "done: 1 items, 1 entries, 0 steps\n"),
+        (256, 1, "1:1: text: long name\n"),
+    ] {
+        let mut book = vec![in rt.alloc(); b'a'; length]?;
+        book.extend_from_slice(b" := prim : *")?;
+        check(&rt, rt.alloc(), &book, code, report)?;
     }
     Ok(())
 }
@@ -168,7 +222,8 @@ fn places_of_refusals(rt: HostRuntime) -> Result<(), Fail> {
         ("x := y -> z : *", TextWhat::Unknown, 5, 6),
         ("A := prim : *\nx := y : A", TextWhat::Unknown, 19, 20),
         ("A := prim : *\nA := y : z", TextWhat::NameTaken, 14, 15),
-        ("A := prim : *\nx := A A : *", TextWhat::NotBuilt, 19, 22),
+        ("A := prim : *\nx := A A : *", TextWhat::NotBuilt, 14, 26),
+        ("A := prim : *\nx := A(*) : *", TextWhat::NotBuilt, 19, 23),
         ("x := * :", TextWhat::Syntax, 8, 8),
         ("x := $ : *", TextWhat::BadByte, 5, 5),
     ] {
@@ -253,33 +308,79 @@ fn limits(rt: HostRuntime) -> Result<(), Fail> {
     Ok(())
 }
 
-// Runs words that ask for nothing that is known.
+// Runs words that ask for nothing that is known. The desk's second call would fail, and its only call is the report's.
 fn unknown(rt: &impl Abort, alloc: Global, words: &[&str]) -> Result<(), Fail> {
-    let mut desk = desk_with(alloc, b"A := prim : *", &[])?;
-    assert_eq!(rt; run(alloc, words, &mut desk).code(), 2);
-    assert!(rt; desk.said().starts_with(b"usage: flagbook check BOOK OUT, "));
+    let mut desk = desk_with(alloc, b"A := prim : *", &[(1, 0)])?;
+    assert_eq!(rt; run(alloc, words, &mut desk).code(), 2, "{words:?}");
+    let usage =
+        "usage: flagbook check BOOK OUT, verify DERIV, print BOOK NAME, term BOOK TEXT, gen N OUT, with --budget N\n";
+    assert_eq!(rt; desk.said(), usage.as_bytes());
     assert!(rt; desk.file("out") == Some(b"old".as_slice()));
+    assert_eq!(rt; desk.faults(), 0, "{words:?}");
     Ok(())
 }
 
 #[test]
-fn words(rt: HostRuntime) -> Result<(), Fail> {
-    unknown(&rt, rt.alloc(), &["check", "book", "-out"])?;
-    unknown(&rt, rt.alloc(), &["check", "--help", "out"])?;
-    unknown(&rt, rt.alloc(), &["verify", "book", "out"])?;
-    unknown(&rt, rt.alloc(), &["check", "book"])?;
-    unknown(&rt, rt.alloc(), &[])?;
-    // A book and its derivation may be one file, and `-` is a name.
+fn no_commands(rt: HostRuntime) -> Result<(), Fail> {
+    for words in [
+        ["check", "book", "-out"].as_slice(),
+        ["check", "--help", "out"].as_slice(),
+        ["--help"].as_slice(),
+        ["verify", "book", "out"].as_slice(),
+        ["check", "book"].as_slice(),
+        ["check", "book", "out", "extra"].as_slice(),
+        ["check", "book", "out", "--budget"].as_slice(),
+        ["check", "book", "out", "--budget="].as_slice(),
+        ["check", "book", "out", "--budget=+1"].as_slice(),
+        ["check", "book", "out", "--budget", "1000000001"].as_slice(),
+        ["check", "book", "out", "--budget", "00000000001"].as_slice(),
+        ["check", "book", "out", "--budget", "1", "--budget", "2"].as_slice(),
+    ] {
+        unknown(&rt, rt.alloc(), words)?;
+    }
+    unknown(&rt, rt.alloc(), &[])
+}
+
+// Runs words that ask for a check of the book of this name, whose derivation goes into the file `out`.
+fn known(rt: &impl Abort, alloc: Global, words: &[&str], book: &str) -> Result<(), Fail> {
+    let mut desk = desk_of(alloc, [(book, b"A := prim : *"), ("out", b"old")], &[])?;
+    assert_eq!(rt; run(alloc, words, &mut desk).code(), 0, "{words:?}");
+    assert!(rt; desk.file("out") == Some(ONE_PRIMITIVE.as_slice()));
+    Ok(())
+}
+
+#[test]
+fn commands(rt: HostRuntime) -> Result<(), Fail> {
+    for (words, book) in [
+        (["--budget", "5", "check", "book", "out"].as_slice(), "book"),
+        (["check", "--budget=5", "book", "out"].as_slice(), "book"),
+        (
+            ["check", "book", "out", "--budget", "1000000000"].as_slice(),
+            "book",
+        ),
+        (["check", "--", "book", "out"].as_slice(), "book"),
+        (["check", "-", "out"].as_slice(), "-"),
+        (["check", "--", "--budget", "out"].as_slice(), "--budget"),
+    ] {
+        known(&rt, rt.alloc(), words, book)?;
+    }
+    // A book and its derivation may be one file.
     let mut desk = desk_with(rt.alloc(), b"A := prim : *", &[])?;
     assert_eq!(rt;
         run(rt.alloc(), &["check", "book", "book"], &mut desk).code(),
         0
     );
     assert!(rt; desk.file("book") == Some(ONE_PRIMITIVE.as_slice()));
-    assert_eq!(rt;
-        run(rt.alloc(), &["check", "-", "out"], &mut desk).code(),
-        5
-    );
+    Ok(())
+}
+
+#[test]
+fn no_such_book(rt: HostRuntime) -> Result<(), Fail> {
+    let mut desk = desk_with(rt.alloc(), b"A := prim : *", &[])?;
+    let status = run(rt.alloc(), &["check", "other", "out"], &mut desk);
+    assert_eq!(rt; status.code(), 5);
+    assert!(rt; desk.said().is_empty());
+    assert!(rt; desk.file("out") == Some(b"old".as_slice()));
     Ok(())
 }
 

@@ -1,19 +1,24 @@
 //! The top call: what the words ask for, and one report.
-ghost use Rattle.std.specs.Prelude.{◌≡◌, ◌≢◌, ◌⊎◌, ◌≤◌, ℕ, List, None, IfOk, IsTrue, IsErrOf, length};
+ghost use Rattle.std.specs.Prelude.{◌≡◌, ◌⊎◌, ◌≤◌, ℕ, List, None, IfOk, IsTrue, IsErrOf, length};
 ghost use Rattle.fb_base.specs.Desk.{Rose, OthersStay};
 ghost use Rattle.book_top.specs.Words.{texts, IsCheck, IsNoCommand};
 ghost use Rattle.book_top.specs.Desk.{OnlySays};
-ghost use Rattle.book_top.specs.Top.{IsFetched, AnswersNoCommand, Checks, Outcome, IsSaid, IsAnswerOf};
+ghost use Rattle.book_top.specs.Top.{IsFetched, AnswersNoCommand, Checks, Outcome, IsSaid, IsAnswerOf, IsRule, why_of};
 ghost use Rattle.book_top.specs.Said.{HasNoPlace, SaysOf};
-ghost use Rattle.book_top.specs.Checked.{AnswersFault, AnswersStop, IsRuleFault};
+ghost use Rattle.book_top.specs.Checked.{AnswersFault, AnswersStop};
+ghost use Rattle.ld_terms.specs.Item.{Item};
+ghost use Rattle.ld_infer.specs.Infers.{refusal_of, reason_of};
 
 use crate::check::{Stop, check_items};
 use crate::item::ItemStop;
+use crate::names::fault_at;
 use crate::report::report;
-use crate::status::{LimitFault, RuleFault, Side, Status, TextFault, TextWhat, WhyName};
-use crate::words::command;
+use crate::status::{
+    BudgetFault, LimitFault, RuleFault, Side, Status, TextFault, TextWhat, Want, WhyName,
+};
+use crate::words::read_words;
 use bumpalo::Bump;
-use fb_base::{Desk, DeskFault, Span};
+use fb_base::{Desk, DeskFault, NoMemory, Span};
 use fb_lex::LexFault;
 use fb_parse::{ParseFault, parse_book};
 use ld_infer::{Failure, Why};
@@ -24,28 +29,29 @@ const BOOK_BYTES: usize = 4_194_304;
 /// Does what the words of the command line ask for, and says one report.
 ///
 /// `check BOOK OUT` reads the book, and only when it is parsed begins the file OUT, so that OUT may be the book's own
-/// name. The items are judged in order, each in the empty context; the records of each are written before the next is
-/// judged.
+/// name. The items are judged in order, each under the flags that its bars leave open and within a budget of steps; the
+/// records of each are written before the next is judged.
 pub fn run<D: Desk>(alloc: Global, words: &[&str], desk: &mut D) -> Status
     ensures outcome { IsTrue (D.seen desk.old).tells_files → Outcome (D.seen desk.old).files (D.seen desk.new).files (texts words.now) result }
     ensures usage { result ≡ Status.Usage → IsNoCommand (texts words.now) }
     ensures no_command { IsNoCommand (texts words.now) → AnswersNoCommand result }
     ensures only_says { IsNoCommand (texts words.now) → OnlySays (D.seen desk.old) (D.seen desk.new) }
-    ensures others { (book out : List ℕ) → IsCheck (texts words.now) book out → IsTrue (D.seen desk.old).tells_files → OthersStay (D.seen desk.old) (D.seen desk.new) out }
+    ensures others { (book out : List ℕ) (budget : ℕ) → IsCheck (texts words.now) book out budget → IsTrue (D.seen desk.old).tells_files → OthersStay (D.seen desk.old) (D.seen desk.new) out }
     ensures said { IsTrue (D.seen desk.old).tells_said → SaysOf (D.seen desk.old) (D.seen desk.new) (texts words.now) result }
     ensures desk { result ≡ Status.Desk → Rose (D.seen desk.old).faults (D.seen desk.new).faults }
     ensures absent { IsTrue (D.seen desk.old).tells_files → IsTrue (D.seen desk.old).sound → result ≡ Status.Desk
-        → (book : List ℕ) × (out : List ℕ) × IsCheck (texts words.now) book out × ((D.seen desk.old).files book ≡ None) }
+        → (book : List ℕ) × (out : List ℕ) × (budget : ℕ) × IsCheck (texts words.now) book out budget × ((D.seen desk.old).files book ≡ None) }
 {
-    match command(words) {
-        Some(asked) => match fetch(alloc, desk, asked.book) {
+    match read_words(alloc, words) {
+        Ok(Some(asked)) => match fetch(alloc, desk, asked.book) {
             Ok(text) => {
-                let status = check(alloc, &text, asked.out, desk);
+                let status = check(alloc, &text, asked.out, asked.budget, desk);
                 say(alloc, desk, &text, status)
             }
             Err(status) => say(alloc, desk, &[], status),
         },
-        None => say(alloc, desk, &[], Status::Usage),
+        Ok(None) => say(alloc, desk, &[], Status::Usage),
+        Err(NoMemory) => Status::Memory,
     }
 }
 
@@ -71,11 +77,12 @@ fn say<D: Desk>(alloc: Global, desk: &mut D, text: &[u8], status: Status) -> Sta
     }
 }
 
-// The check of a book with this text.
-fn check<D: Desk>(alloc: Global, text: &[u8], out: &str, desk: &mut D) -> Status
+// The check of a book with this text, under a budget for each item.
+fn check<D: Desk>(alloc: Global, text: &[u8], out: &str, budget: u64, desk: &mut D) -> Status
     requires short { length text.now ≤ 4194304 }
+    requires budget { budget ≤ 1000000000 }
     ensures checks { IsTrue (D.seen desk.old).tells_files → (book : List ℕ) → IsFetched (D.seen desk.old).files book text.now
-        → Checks (D.seen desk.old).files (D.seen desk.new).files book out.now result }
+        → Checks budget (D.seen desk.old).files (D.seen desk.new).files book out.now result }
     ensures no_usage { result ≡ Status.Usage → ⊥ }
     ensures others { IsTrue (D.seen desk.old).tells_files → OthersStay (D.seen desk.old) (D.seen desk.new) out.now }
     ensures said { (D.seen desk.new).said ≡ (D.seen desk.old).said }
@@ -91,7 +98,7 @@ fn check<D: Desk>(alloc: Global, text: &[u8], out: &str, desk: &mut D) -> Status
         Ok(parsed) => parsed,
         Err(fault) => return parse_answer(fault),
     };
-    match check_items(alloc, desk, out, text, parsed.items) {
+    match check_items(alloc, desk, out, text, parsed.items, budget) {
         Ok(summary) => Status::Done(summary),
         Err(stop) => stop_answer(stop),
     }
@@ -105,8 +112,8 @@ fn fetch<D: Desk>(alloc: Global, desk: &mut D, book: &str) -> Result<Vec<u8>, St
     ensures never_falls { (D.seen desk.old).faults ≤ (D.seen desk.new).faults }
     ensures desk { IsErrOf result Status.Desk → Rose (D.seen desk.old).faults (D.seen desk.new).faults }
     ensures placeless { (status : Status) → IsErrOf result status → HasNoPlace status }
-    ensures stopped { (status : Status) → IsErrOf result status → IsTrue (D.seen desk.old).tells_files → (out : List ℕ)
-        → Checks (D.seen desk.old).files (D.seen desk.new).files book.now out status }
+    ensures stopped { (status : Status) → IsErrOf result status → IsTrue (D.seen desk.old).tells_files → (out : List ℕ) (budget : ℕ)
+        → Checks budget (D.seen desk.old).files (D.seen desk.new).files book.now out status }
     ensures absent { IsErrOf result Status.Desk → IsTrue (D.seen desk.old).tells_files → IsTrue (D.seen desk.old).sound → (D.seen desk.old).files book.now ≡ None }
     ensures no_usage { IsErrOf result Status.Usage → ⊥ }
 {
@@ -140,22 +147,24 @@ fn parse_answer(fault: ParseFault) -> Status
 fn text_answer(what: TextWhat, at: usize) -> Status
     ensures { result ≡ Status.Text (record { side = Side.Book; at = record { start = at; end = at }; what = what }) }
 {
-    Status::Text(TextFault {
-        side: Side::Book,
-        at: Span { start: at, end: at },
-        what,
-    })
+    Status::Text(fault_at(what, Span { start: at, end: at }))
 }
 
 // The answer for a check that stopped.
 fn stop_answer(stop: Stop) -> Status
-    ensures { AnswersStop stop result }
+    ensures answers { AnswersStop stop result }
+    ensures no_usage { result ≡ Status.Usage → ⊥ }
+    ensures desk { result ≡ Status.Desk → stop ≡ Stop.Desk }
 {
     match stop {
         Stop::Desk => Status::Desk,
         Stop::Memory => Status::Memory,
         Stop::Item(_, _, ItemStop::Text(fault)) => Status::Text(fault),
         Stop::Item(_, at, ItemStop::High) => Status::Limit(LimitFault::Height(at.start)),
+        Stop::Item(_, at, ItemStop::ManyFlags) => Status::Limit(LimitFault::Flags(at.start)),
+        Stop::Item(number, at, ItemStop::Budget(want)) => {
+            Status::Budget(budget_fault(number, at, want))
+        }
         Stop::Item(number, at, ItemStop::Refused(failure)) => {
             Status::Rule(rule_fault(number, at, failure))
         }
@@ -163,14 +172,23 @@ fn stop_answer(stop: Stop) -> Status
     }
 }
 
+// That an item takes more than it may have.
+fn budget_fault(item: u64, at: Span, want: Want) -> BudgetFault
+    ensures { result ≡ record { side = Side.Book; item = item; at = at; want = want } }
+{
+    BudgetFault {
+        side: Side::Book,
+        item,
+        at,
+        want,
+    }
+}
+
 // The refusal of an item by a rule.
 fn rule_fault(item: u64, at: Span, failure: Failure) -> RuleFault
-    ensures { IsRuleFault item at failure result }
+    ensures { (items : List Item) → IsRule item at (refusal_of items failure) result }
 {
-    let why = match failure.why {
-        Why::NoType => WhyName::NoType,
-        Why::NotSame { .. } => WhyName::NotSame,
-    };
+    let why = why_name(failure.why);
     RuleFault {
         side: Side::Book,
         item,
@@ -179,5 +197,19 @@ fn rule_fault(item: u64, at: Span, failure: Failure) -> RuleFault
         premise: failure.premise,
         path: failure.path,
         why,
+    }
+}
+
+// Why a premise fails, without the terms.
+fn why_name(why: Why) -> WhyName
+    ensures { (items : List Item) → result ≡ why_of (reason_of items why) }
+{
+    match why {
+        Why::NoType => WhyName::NoType,
+        Why::NotSort { .. } => WhyName::NotSort,
+        Why::NotFunction { .. } => WhyName::NotFunction,
+        Why::BoxBody => WhyName::BoxBody,
+        Why::Again => WhyName::Again,
+        Why::NotSame { .. } => WhyName::NotSame,
     }
 }

@@ -1,36 +1,139 @@
 //! The words of the command line.
-ghost use Rattle.std.specs.Prelude.{◌≡◌, MatchOption};
-ghost use Rattle.book_top.specs.Words.{is_option, texts, IsCheck, IsNoCommand};
+ghost use Rattle.std.specs.Prelude.{◌≡◌, ℕ, All, IfOk, IfErr, MatchOption, IsUtf8};
+ghost use Rattle.clap.specs.Simple.{app_of};
+ghost use Rattle.book_top.specs.Words.{texts, listed, Arranges, HasBudget, IsCheck, IsNoCommand, IsDecided};
+ghost use Rattle.book_top.specs.CommandLine.{positionals, line, Finds, Exceeds, Asks, AsksNothing};
 
-/// What the words ask for: a check of the book, whose derivation goes into the file `out`.
+use clap::error::ErrorKind;
+use clap::{Arg, ArgMatches, Command};
+use fb_base::NoMemory;
+use std::alloc::{AllocError, Global};
+
+// The budget where the words give none.
+const DEFAULT_BUDGET: u64 = 1_000_000;
+
+// The greatest budget.
+const MOST_BUDGET: u64 = 1_000_000_000;
+
+// How many digits a budget has at most.
+const MOST_DIGITS: usize = 10;
+
+/// What the words ask for: a check of the book, whose derivation goes into the file `out`, within a budget of steps.
 #[derive(Clone, Copy)]
 pub struct Check<'a> {
     pub book: &'a str,
     pub out: &'a str,
+    pub budget: u64,
+}
+
+// The texts of the positionals, in their order, and that of the budget.
+#[derive(Clone, Copy)]
+struct Given<'a> {
+    command: Option<&'a str>,
+    book: Option<&'a str>,
+    out: Option<&'a str>,
+    budget: Option<&'a str>,
 }
 
 /// What the words ask for, if it is known.
-pub fn command<'a>(words: &[&'a str]) -> Option<Check<'a>>
-    ensures { MatchOption result (IsNoCommand (texts words.now)) (λ check. IsCheck (texts words.now) check.book.now check.out.now) }
+pub fn read_words<'a>(alloc: Global, words: &'a [&'a str]) -> Result<Option<Check<'a>>, NoMemory>
+    ensures asked { IfOk result (λ asked. MatchOption asked (IsNoCommand (texts words.now)) (λ check. IsCheck (texts words.now) check.book.now check.out.now check.budget)) }
+    ensures either { IfErr result (λ _. IsDecided (texts words.now)) }
 {
-    match words {
-        [command, book, out] => {
-            if *command != "check" || is_option(*book) || is_option(*out) {
-                return None;
-            }
-            Some(Check {
-                book: *book,
-                out: *out,
-            })
-        }
+    are_texts(words);
+    match read_given(alloc, words)? {
+        Some(given) => Ok(read_check(given)),
+        None => Ok(None),
+    }
+}
+
+// The check that the texts ask for, if they do.
+fn read_check<'a>(given: Given<'a>) -> Option<Check<'a>>
+    ensures { MatchOption result (AsksNothing (positionals given.entry) (listed given.entry.budget))
+        (λ check. Asks (positionals given.entry) (listed given.entry.budget) check.book.now check.out.now check.budget) }
+{
+    match (
+        given.command,
+        given.book,
+        given.out,
+        read_budget(given.budget),
+    ) {
+        (Some("check"), Some(book), Some(out), Some(budget)) => Some(Check { book, out, budget }),
         _ => None,
     }
 }
 
-// Whether a word begins with `-` and isn't `-` alone.
-fn is_option(word: &str) -> bool
-    ensures { result ≡ is_option word.now }
+// The budget that the text of the option gives, if it is one.
+fn read_budget(text: Option<&str>) -> Option<u64>
+    ensures { MatchOption result ((budget : ℕ) → HasBudget (listed text.entry) budget → ⊥) (λ budget. HasBudget (listed text.entry) budget) }
 {
-    let bytes = word.as_bytes();
-    bytes.len() > 1 && bytes[0] == b'-'
+    let Some(text) = text else {
+        return Some(DEFAULT_BUDGET);
+    };
+    // `parse` takes a leading `+`, which is no digit.
+    if text.len() > MOST_DIGITS || text.starts_with('+') {
+        return None;
+    }
+    match text.parse::<u64>() {
+        Ok(budget) if budget <= MOST_BUDGET => Some(budget),
+        _ => None,
+    }
 }
+
+// The texts of the words, if these are at most three positionals and one budget.
+fn read_given<'a>(alloc: Global, words: &'a [&'a str]) -> Result<Option<Given<'a>>, NoMemory>
+    requires { All (λ w. IsUtf8 w.now) words.now }
+    ensures { IfOk result (λ found. MatchOption found (Exceeds (texts words.now)) (λ given. Arranges (texts words.now) (positionals given) (listed given.budget))) }
+{
+    let Some(matches) = found(alloc, words)? else {
+        return Ok(None);
+    };
+    Ok(Some(Given {
+        command: matches.get_str("command"),
+        book: matches.get_str("book"),
+        out: matches.get_str("out"),
+        budget: matches.get_str("budget"),
+    }))
+}
+
+// What `clap` finds in the words.
+fn found<'a>(alloc: Global, words: &'a [&'a str]) -> Result<Option<ArgMatches<'a>>, NoMemory>
+    ensures { IfOk result (Finds (texts words.now)) }
+{
+    let Ok(line) = command_line(alloc) else {
+        return Err(NoMemory);
+    };
+    match line.try_get_matches_from(words) {
+        Ok(matches) => Ok(Some(matches)),
+        Err(error) if error.kind() == ErrorKind::OutOfMemory => Err(NoMemory),
+        Err(_) => Ok(None),
+    }
+}
+
+// The command line as `clap` reads it.
+fn command_line<'a>(alloc: Global) -> Result<Command<'a>, AllocError>
+    ensures { IfOk result (λ c. app_of c ≡ line) }
+{
+    let budget = Arg::new(alloc, "budget").long("budget");
+    Command::new(alloc, "flagbook")
+        .no_binary_name(true)
+        .disable_help_flag(true)
+        .disable_version_flag(true)
+        .arg(Arg::new(alloc, "command"))?
+        .arg(Arg::new(alloc, "book"))?
+        .arg(Arg::new(alloc, "out"))?
+        .arg(budget)
+}
+
+// Says, for proofs, that each word is text, and does nothing.
+fn are_texts(words: &[&str])
+    ensures { All (λ w. IsUtf8 w.now) words.now }
+{
+    for word in words {
+        is_text(*word);
+    }
+}
+
+fn is_text(word: &str)
+    ensures { IsUtf8 word.now }
+{}

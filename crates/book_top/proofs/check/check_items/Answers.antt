@@ -1,51 +1,52 @@
 use Rattle.std.proofs.Common.{arith, refl, length}
 use Rattle.std.proofs.lemmas.Result.{err_from_is_err_and}
 use Rattle.fb_parse.specs.ItemView.{items_view}
-use Rattle.book_top.proofs.Checks.{checks_none, checks_more, checks_done}
+use Rattle.book_top.proofs.Checks.{checks_none, checks_more, entries_kept, checks_done}
 use Rattle.book_top.proofs.Stops.{item_stops, end_stops, begin_stops, header_left}
 use Rattle.book_top.proofs.check.check_items.Goals as goal
 
 pub loop-number-init : goal.loop-number-init
 loop-number-init g c =
-    checks_none _ _ _ _ _ _
+    checks_none _ _ _ _ _ _ _ _
     c.begin.ensures.told c.begin.ensures.tells_said c.begin.ensures.said c.in_ok-begin.ensures.started c.in_ok-begin.ensures.target c.in_ok-begin.ensures.header c.begin.ensures.others c.begin.ensures.never_falls c.begin.ensures.sound_stays
-    c.in_ok-theory.ensures.known c.in_ok-theory.ensures.sound c.in_ok-theory.ensures.context c.new-writer.ensures
+    c.in_ok-theory.ensures.known c.in_ok-theory.ensures.sound c.in_ok-theory.ensures.context c.new-scope.ensures c.new-writer.ensures
 
 pub loop-number-preserved : goal.loop-number-preserved
 loop-number-preserved g c =
-    checks_more _ _ _ _ c.args.text.now c.args.items.now c.loop-number.number c.index-items-number.result _ _ _ _
-    c.loop-number.invariant (omega arith) c.index-items-number.is
-    c.in_ok-check_item.ensures.writes c.in_ok-check_item.ensures.written c.in_ok-check_item.ensures.sound c.in_ok-check_item.ensures.accepted c.in_ok-check_item.ensures.flat
+    checks_more c.args.budget _ _ _ _ c.args.text.now c.args.items.now c.loop-number.number c.index-items-number.result _ _ _ _ _ _ c.loop-number.steps _
+    c.requires.budget c.loop-number.invariant (omega arith) c.index-items-number.is
+    c.in_ok-steps.ensures.writes c.in_ok-steps.ensures.written c.in_ok-steps.ensures.sound c.in_ok-steps.ensures.accepted c.in_ok-steps.ensures.step
     c.check_item.ensures.stays
 
 pub returns-in_err-begin-clause-answer : goal.returns-in_err-begin-clause-answer
 returns-in_err-begin-clause-answer g c = λ t.
     let p = err_from_is_err_and c.from_residual.result c.from_residual.ensures.1 in
-    rw (p.1, p.2) (begin_stops _ _ (items_view c.args.text.now c.args.items.now) c.in_err-begin.field-0.0 (c.in_err-begin.ensures.begun t))
+    rw (p.1, p.2) (begin_stops c.args.budget _ _ (items_view c.args.text.now c.args.items.now) c.in_err-begin.field-0.0 (c.in_err-begin.ensures.begun t))
 
 pub returns-in_err-theory-clause-answer : goal.returns-in_err-theory-clause-answer
 returns-in_err-theory-clause-answer g c = λ t.
     let p = err_from_is_err_and c.from_residual-in_err-theory.result c.from_residual-in_err-theory.ensures.1 in
-    rw (p.1, p.2) (header_left _ _ (items_view c.args.text.now c.args.items.now) (c.in_ok-begin.ensures.header t))
+    rw (p.1, p.2) (header_left c.args.budget _ _ (items_view c.args.text.now c.args.items.now) (c.in_ok-begin.ensures.header t))
 
-pub returns-in_err-check_item-clause-answer : goal.returns-in_err-check_item-clause-answer
-returns-in_err-check_item-clause-answer g c = λ t.
-    let p = err_from_is_err_and c.from_residual-in_err-check_item.result c.from_residual-in_err-check_item.ensures.1 in
+pub returns-in_err-steps-clause-answer : goal.returns-in_err-steps-clause-answer
+returns-in_err-steps-clause-answer g c = λ t.
+    let p = err_from_is_err_and c.from_residual-in_err-steps.result c.from_residual-in_err-steps.ensures.1 in
     rw (p.1, p.2)
-    (item_stops (g.D.Desk.seen c.args.desk.now) (g.D.Desk.seen c.loop-number.desk) (g.D.Desk.seen c.check_item.new.desk) c.args.out.now c.args.text.now c.args.items.now
-    c.loop-number.number c.index-items-number.result c.loop-number.theory c.check_item.new.theory c.loop-number.writer c.check_item.new.writer c.in_err-check_item.field-0.0
-    c.loop-number.invariant (omega arith) c.index-items-number.is c.in_err-check_item.ensures.stops t)
+    (item_stops c.args.budget (g.D.Desk.seen c.args.desk.now) (g.D.Desk.seen c.loop-number.desk) (g.D.Desk.seen c.check_item.new.desk) c.args.out.now c.args.text.now c.args.items.now
+    c.loop-number.number c.index-items-number.result c.loop-number.theory c.check_item.new.theory c.loop-number.scope c.check_item.new.scope c.loop-number.writer c.check_item.new.writer
+    c.loop-number.steps c.in_err-steps.field-0.0
+    c.loop-number.invariant (omega arith) c.index-items-number.is c.in_err-steps.ensures.stops t)
 
 pub returns-in_err-finish-clause-answer : goal.returns-in_err-finish-clause-answer
 returns-in_err-finish-clause-answer g c = λ t.
     let p = err_from_is_err_and c.from_residual-in_err-finish.result c.from_residual-in_err-finish.ensures.1 in
     rw (p.1, p.2)
-    (end_stops (g.D.Desk.seen c.args.desk.now) (g.D.Desk.seen c.loop-number.desk) (g.D.Desk.seen c.finish.new.desk) c.args.out.now c.args.text.now c.args.items.now
-    c.loop-number.number c.loop-number.theory c.loop-number.writer c.in_err-finish.field-0.0
+    (end_stops c.args.budget (g.D.Desk.seen c.args.desk.now) (g.D.Desk.seen c.loop-number.desk) (g.D.Desk.seen c.finish.new.desk) c.args.out.now c.args.text.now c.args.items.now
+    c.loop-number.number c.loop-number.theory c.loop-number.scope c.loop-number.writer c.loop-number.steps c.in_err-finish.field-0.0
     c.loop-number.invariant (omega arith) c.in_err-finish.ensures.stops t)
 
 pub returns-clause-answer : goal.returns-clause-answer
 returns-clause-answer g c =
-    checks_done (g.D.Desk.seen c.args.desk.now) (g.D.Desk.seen c.loop-number.desk) (g.D.Desk.seen c.finish.new.desk) c.args.out.now c.args.text.now c.args.items.now
-    c.loop-number.number (length c.args.items.now) c.loop-number.theory c.loop-number.writer
-    c.loop-number.invariant (omega arith) refl c.in_ok-finish.ensures.done
+    checks_done c.args.budget (g.D.Desk.seen c.args.desk.now) (g.D.Desk.seen c.loop-number.desk) (g.D.Desk.seen c.finish.new.desk) c.args.out.now c.args.text.now c.args.items.now
+    c.loop-number.number (length c.args.items.now) _ c.loop-number.theory c.loop-number.scope c.loop-number.writer c.loop-number.steps
+    c.loop-number.invariant (omega arith) refl (entries_kept c.finish.new.theory _ _ _ c.len.ensures c.env.ensures.entries c.env.ensures.trees c.in_ok-finish.ensures.entries) c.in_ok-finish.ensures.done

@@ -11,14 +11,14 @@ check_items-requires-clause-few g c = omega (arith, c.in-Ok.ensures.exact.few, l
 
 pub returns-in-Err-clause-checks : goal.returns-in-Err-clause-checks
 returns-in-Err-clause-checks g c = λ told book fetched.
-    parse_checks _ _ _ _ c.args.text.now c.args.text.now c.in-Err.fault _ refl refl fetched c.in-Err.ensures.exact c.parse_answer.ensures
+    parse_checks _ _ _ _ _ c.args.text.now c.args.text.now c.in-Err.fault _ refl refl fetched c.in-Err.ensures.exact c.parse_answer.ensures
 
 pub returns-in-Ok-check_items-clause-checks : goal.returns-in-Ok-check_items-clause-checks
 returns-in-Ok-check_items-clause-checks g c = λ told book fetched.
-    done_checks _ _ _ _ c.args.text.now c.args.text.now c.args.text.now c.in-Ok.parsed.items.now refl refl fetched c.in-Ok.ensures.exact c.in-Ok-check_items.summary
+    done_checks _ _ _ _ _ c.args.text.now c.args.text.now c.args.text.now c.in-Ok.parsed.items.now refl refl fetched c.in-Ok.ensures.exact c.in-Ok-check_items.summary
     (c.in-Ok-check_items.ensures.answer told)
 
 pub returns-clause-checks : goal.returns-clause-checks
 returns-clause-checks g c = λ told book fetched.
-    stop_checks _ _ _ _ c.args.text.now c.args.text.now c.args.text.now c.in-Ok.parsed.items.now refl refl fetched c.in-Ok.ensures.exact c.in-Err-check_items.stop _
-    (c.in-Err-check_items.ensures.answer told) c.stop_answer.ensures
+    stop_checks _ _ _ _ _ c.args.text.now c.args.text.now c.args.text.now c.in-Ok.parsed.items.now refl refl fetched c.in-Ok.ensures.exact c.in-Err-check_items.stop _
+    (c.in-Err-check_items.ensures.answer told) c.stop_answer.ensures.answers

@@ -1,0 +1,66 @@
+-- One reading and then another: whether both read, and what they give.
+use Rattle.std.proofs.Common.{◌≡◌, List, ℕ, zero, suc, false, Result, Ok, Err, IsOk, IsErrAnd, Bor, refl, sym, ap, subst, ◌∙◌}
+use Rattle.fb_base.specs.declared.places.Span.{Span}
+use Rattle.fb_parse.specs.declared.tree.Form.TheVariants as form
+use Rattle.fb_parse.specs.declared.tree.Tree.{Tree}
+use Rattle.fb_parse.specs.View.{view, views, form_view}
+use Rattle.fb_parse.proofs.Views.{view_apply}
+use Rattle.fb_scope.specs.State.{State}
+use Rattle.fb_scope.specs.Resolve.{resolve}
+use Rattle.fb_scope.specs.declared.fault.ScopeFault.{ScopeFault}
+use Rattle.fb_scope.specs.declared.fault.ScopeFault.TheVariants as scope
+use Rattle.fb_scope.specs.declared.resolve.Found.{Found}
+use Rattle.fb_scope.specs.declared.resolve.Found.TheVariants as stands
+use Rattle.ld_terms.specs.Tree as tree
+use Rattle.book_top.specs.declared.status.TextFault.{TextFault}
+use Rattle.book_top.specs.declared.names.NameStop.{NameStop}
+use Rattle.book_top.specs.declared.names.NameStop.TheVariants as stop
+use Rattle.book_top.specs.Names.{tree_of, applied, found, ◌>>=◌}
+use Rattle.book_top.specs.Built.{read, Reads}
+
+pub bind_ok : {A B : Type 0} (r : Result A TextFault) (g : A → Result B TextFault) (b : B) → r >>= g ≡ Ok b → (a : A) × (r ≡ Ok a) × (g a ≡ Ok b)
+bind_ok (Ok a) g b e = (a, refl, e)
+bind_ok (Err f) g b e = absurd (cc)
+
+pub ok_first : {A B : Type 0} (r : Result A TextFault) (g : A → Result B TextFault) → IsOk (r >>= g) → IsOk r
+ok_first (Ok a) g ok = refl
+ok_first (Err f) g ok = cc
+
+pub ok_value : {A : Type 0} (r : Result A TextFault) → IsOk r → (a : A) × (r ≡ Ok a)
+ok_value (Ok a) ok = (a, refl)
+ok_value (Err f) ok = absurd (cc)
+
+pub ok_read : (r : Result tree.Tree TextFault) → IsOk r → r ≡ Ok (read r)
+ok_read (Ok a) ok = refl
+ok_read (Err f) ok = absurd (cc)
+
+-- a fault of what is read first is one of the whole
+pub reads_first : {A B : Type 0} (r : Result A TextFault) (g : A → Result B TextFault) (s : NameStop) → Reads r (Err s) → Reads (r >>= g) (Err s)
+reads_first r g (stop.Text f) e = ap (λ q. q >>= g) e
+reads_first r g stop.Memory e = tt
+
+-- a fault at a residual
+pub unread : {A : Type 0} (r : Result A TextFault) (f : TextFault) (q : Result (Unit {0}) NameStop) → r ≡ Err f → IsErrAnd q (λ s. s ≡ stop.Text f) → Reads r q
+unread r f (Ok u) e h = absurd h
+unread r f (Err s) e h = let P : NameStop → Type 0 = λ z. Reads r (Err z) in subst P (sym h) e
+
+pub unread_by : {A : Type 0} (r : Result A TextFault) (s : NameStop) (q : Result (Unit {0}) NameStop) → Reads r (Err s) → IsErrAnd q (λ z. z ≡ s) → Reads r q
+unread_by r s (Ok u) e h = absurd h
+unread_by r s (Err z) e h = let P : NameStop → Type 0 = λ z. Reads r (Err z) in subst P (sym h) e
+
+-- a name, and an application, as they are read
+pub name_read : (s : State) (names : List (List ℕ)) (t : Tree) (x : Bor (List ℕ)) → t.form.now ≡ form.Name x → tree_of s names (view t) ≡ found t.span (resolve s names x.now 0 false)
+name_read s names t x e = ap (λ f. tree_of s names (form_view t.span f)) e
+
+pub apply_read : (s : State) (names : List (List ℕ)) (t f : Tree) (us : Bor (List Tree)) → t.form.now ≡ form.Apply f us
+    → tree_of s names (view t) ≡ tree_of s names (view f) >>= (λ g. applied s names g (views us.now))
+apply_read s names t f us e = ap (λ g. tree_of s names (form_view t.span g)) e ∙ ap (tree_of s names) (view_apply t.span f us)
+
+-- an application is read where its arguments are, whatever its function is
+pub reads_arguments : (r : Result tree.Tree TextFault) (g : tree.Tree → Result tree.Tree TextFault) (q : Result (Unit {0}) NameStop) → IsOk r → ((t : tree.Tree) → Reads (g t) q) → Reads (r >>= g) q
+reads_arguments (Ok t) g q ok h = h t
+reads_arguments (Err f) g q ok h = absurd (cc)
+
+pub constant_found : (k implied : ℕ) (at : Span) → IsOk (found at (Ok (stands.Const k implied))) → read (found at (Ok (stands.Const k implied))) ≡ tree.Const k tree.Nil
+constant_found k zero at ok = refl
+constant_found k (suc n) at ok = absurd (cc)
