@@ -1,6 +1,5 @@
 -- What a theory stands for, as terms, contexts and judgements are added.
 use Rattle.std.proofs.Common.{◌≡◌, ℕ, List, length, refl, ap, sym, ◌∙◌, subst}
-use Rattle.std.specs.Prelude.{Result, Ok, Err, OnErr}
 use Rattle.ld_terms.specs.Tree.{Tree, Trees, ◌▸◌}
 use Rattle.ld_terms.specs.Item.{Item, tree}
 use Rattle.ld_terms.specs.Bank.{Extends, tree_at, IsTermAt}

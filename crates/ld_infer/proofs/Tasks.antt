@@ -2,7 +2,7 @@
 use Rattle.std.proofs.Common.{◌≡◌, ◌+◌, ℕ, refl, sym, ap, ◌∙◌, subst, arith}
 use Rattle.ld_terms.specs.Tree.{Tree}
 use Rattle.ld_terms.specs.Item.{One, IsSmall}
-use Rattle.ld_infer.specs.Task.{Pairs, Answer, Gives, Fails, High, Nested, NotBuilt, Task, gives, fails, nested, not_built, step, formed, small, high, Ends, fault, nesting, unbuilt, ◌>>=◌, goes_on, ends, with_fault, faults_by, Answers}
+use Rattle.ld_infer.specs.Task.{Pairs, Answer, Gives, Fails, High, NotBuilt, Task, gives, fails, not_built, step, formed, small, high, Ends, fault, nesting, unbuilt, ◌>>=◌, goes_on, ends, with_fault, faults_by, Answers}
 
 pub gives_answers : {E X : Type 0} (x : X) (K : Pairs) → Answers {E = E} (gives x) K (Gives x) K 0
 gives_answers x K = record { is = (refl, refl, refl); only = λ s L m h. h }

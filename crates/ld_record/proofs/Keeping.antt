@@ -1,6 +1,6 @@
 -- What a derivation's records say, and its tables, as one record more is kept.
 use Rattle.std.proofs.Common.{◌≡◌, ◌≤◌, ◌+◌, ℕ, Bool, List, [], ◌∷◌, ◌++◌, length, take, refl, ap, sym, ◌∙◌, subst, arith, add-zero}
-use Rattle.std.proofs.lemmas.List.{length_push, length-take, take_all, take_at, take-take}
+use Rattle.std.proofs.lemmas.List.{length_push, length-take, take_all, take-take}
 use Rattle.ld_terms.specs.Tree.{◌▸◌}
 use Rattle.ld_terms.specs.Item.{Item}
 use Rattle.ld_terms.specs.Bank.{tree_at}

@@ -1,6 +1,6 @@
 -- A kept record stands by the rule table: its judgement follows by its rule, what it names is there, an entry may be kept.
 use Rattle.std.proofs.Common.{◌≡◌, ◌<◌, ◌+◌, ◌-◌, ℕ, suc, [], length, refl, ap, sym, ◌∙◌, subst, inl, inr, arith}
-use Rattle.std.specs.Prelude.{Bool, nat_lt, if◌then◌else◌, List, true, false}
+use Rattle.std.specs.Prelude.{Bool, nat_lt, if◌then◌else◌, List}
 use Rattle.std.proofs.lemmas.Bool.{cases_lt}
 use Rattle.std.proofs.lemmas.Bool.Decides.{nat_tests}
 use Rattle.std.proofs.lemmas.Option.{slice_get-get_or}
@@ -9,13 +9,13 @@ use Rattle.ld_terms.specs.Tree.{Tree, Star, Box, Var, App, Lam, Pi, Const, Trees
 use Rattle.ld_terms.specs.Put.{lift, put, put_below, put_all_below, in_place_below}
 use Rattle.ld_terms.specs.Entry.{Body, Defined, Primitive, Env, EntryAt, HasBody, defined}
 use Rattle.ld_terms.specs.Rule.{Rule}
-use Rattle.ld_terms.specs.Known.{Known, Judgement, judgement_at, no_judgement, primitive_entry, IsNode, JudgeArguments, FollowsBy, MayBeLine, MayBePrimitive, MayBeFlag}
+use Rattle.ld_terms.specs.Known.{Known, Judgement, judgement_at, no_judgement, primitive_entry, IsNode, JudgeArguments, FollowsBy}
 use Rattle.ld_terms.specs.Record.{State, RuleIsThere}
 use Rattle.ld_record.specs.declared.record.JudgeId.{JudgeId}
 use Rattle.ld_record.specs.declared.record.Step.{Step}
 use Rattle.ld_record.specs.declared.record.Step.TheVariants as step
 use Rattle.ld_record.specs.Follows.{rule_of, entry_at, IsDefined, Over, Instance, Follows}
-use Rattle.ld_record.specs.Kept.{FitsEntry, FitsFlag}
+use Rattle.ld_record.specs.Kept.{FitsEntry}
 
 -- nothing put in changes nothing
 none_in_place : (below i : ℕ) → in_place_below Nil below i ≡ Var i
