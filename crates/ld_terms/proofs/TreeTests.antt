@@ -2,7 +2,7 @@
 use Rattle.std.proofs.Common.{◌≡◌, true, false, refl}
 use Rattle.std.proofs.Math.Decide.{ℕ_discrete}
 use Rattle.ld_terms.specs.Tree.{Tree, Star, Box, Var, App, Lam, Pi, Const, Tree-discrete}
-use Rattle.ld_terms.specs.Tests.{is_yes, equals, is_star, is_box}
+use Rattle.ld_terms.specs.Tests.{is_yes, equals, is_box}
 
 pub equal_trees : (t u : Tree) → t ≡ u → equals t u ≡ true
 equal_trees t u e = by_decision (Tree-discrete ℕ_discrete t u)

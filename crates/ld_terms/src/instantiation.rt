@@ -18,8 +18,20 @@ impl Bank {
         ensures small { IfOk result (λ r. IsSmall (item_at self.new r)) }
         ensures high { result ≡ Err TermFault.High → ¬ IsSmall (One (put (tree_at self.old body) (listed self.old Nil args.now))) }
     {
-        self.keeps_small();
         let list = self.list_of(args)?;
+        self.instantiate_list(body, list)
+    }
+
+    /// The same with the arguments as a list of the bank, so that one list serves several bodies.
+    pub fn instantiate_list(&mut self, body: TermId, list: TermId) -> Result<TermId, TermFault>
+        requires body { IsTermAt self.old body }
+        requires list { IsListAt self.old list }
+        ensures tree { IfOk result (λ r. StandsFor self.new r (put (tree_at self.old body) (list_at self.old list))) }
+        ensures kept { Extends self.old self.new }
+        ensures small { IfOk result (λ r. IsSmall (item_at self.new r)) }
+        ensures high { result ≡ Err TermFault.High → ¬ IsSmall (One (put (tree_at self.old body) (list_at self.old list))) }
+    {
+        self.keeps_small();
         self.put_below(body, list, 0)
     }
 

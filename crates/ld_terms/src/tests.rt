@@ -14,9 +14,14 @@ fn instantiates_in_order(rt: HostRuntime) -> Result<(), Fail> {
     let second = bank.add(Node::Var(3))?;
     let found = bank.instantiate(body, &[first, second])?;
     let lowered = bank.instantiate(free, &[first, second])?;
+    let none = bank.add(Node::Nil)?;
+    let one = bank.add(Node::Cons(first, none))?;
+    let both = bank.add(Node::Cons(second, one))?;
+    let by_list = bank.instantiate_list(body, both)?;
     let wanted = bank.add(Node::App(first, second))?;
     assert!(rt; bank.same(found, wanted));
     assert!(rt; bank.same(lowered, inner));
+    assert!(rt; bank.same(by_list, wanted));
     Ok(())
 }
 
