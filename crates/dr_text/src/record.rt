@@ -3,11 +3,11 @@ ghost use Rattle.std.specs.Prelude.{◌≡◌, ◌++◌, ◌∷◌, ◌<◌, ◌
 ghost use Rattle.std.specs.List.{AllByRecursion};
 ghost use Rattle.ld_terms.specs.Record.{Record};
 ghost use Rattle.ld_terms.specs.Rule.{rule_numbers};
-ghost use Rattle.ld_record.specs.Follows.{rule_of};
+ghost use Rattle.ld_record.specs.Follows.{numbers_of, rule_of};
 ghost use Rattle.dr_text.specs.Spelling.{tag, node_tag, numbers_bytes, header};
 ghost use Rattle.dr_text.specs.Written.{Pushes, entry_record};
 
-use crate::number::push_numbers;
+use crate::number::{push_number, push_numbers};
 use fb_base::{NoMemory, Text};
 use ld_record::{Judge, JudgeId, Step};
 
@@ -55,15 +55,15 @@ fn step_tag(step: &Step) -> u8
         Step::Abst(..) => 0x35,
         Step::Def(_) => 0x37,
         Step::DefPrim(_) => 0x38,
-        Step::Inst(_) => 0x39,
-        Step::InstPrim(_) => 0x3a,
+        Step::Inst(..) => 0x39,
+        Step::InstPrim(..) => 0x3a,
     }
 }
 
-// Instances have no arguments, whose count is 0.
+// The numbers of a rule's premises; an instance's judgements of arguments stand behind their count.
 fn push_premises(step: &Step, out: &mut Vec<u8>) -> Result<(), NoMemory>
     ensures bytes { OnOk result (out.new.items ≡ out.old.items ++ numbers_bytes (rule_numbers (rule_of step.now))) }
-    ensures range { AllByRecursion (λ n. n < 2 ^ 64) (rule_numbers (rule_of step.now)) }
+    ensures range { OnOk result (AllByRecursion (λ n. n < 2 ^ 64) (rule_numbers (rule_of step.now))) }
 {
     match step {
         Step::Sort => Ok(()),
@@ -71,8 +71,23 @@ fn push_premises(step: &Step, out: &mut Vec<u8>) -> Result<(), NoMemory>
             push_numbers(&[n.number(), m.number()], out)
         }
         Step::Var(n) | Step::Def(n) | Step::DefPrim(n) => push_numbers(&[n.number()], out),
-        Step::Inst(n) | Step::InstPrim(n) => push_numbers(&[n.number(), 0], out),
+        Step::Inst(n, ns) | Step::InstPrim(n, ns) => {
+            let judges = ns.as_slice();
+            push_numbers(&[n.number(), judges.len()], out)?;
+            push_judges(judges, out)
+        }
     }
+}
+
+// Appends the numbers of some judgements.
+fn push_judges(judges: &[JudgeId], out: &mut Vec<u8>) -> Result<(), NoMemory>
+    ensures bytes { OnOk result (out.new.items ≡ out.old.items ++ numbers_bytes (numbers_of judges.now)) }
+    ensures range { OnOk result (AllByRecursion (λ n. n < 2 ^ 64) (numbers_of judges.now)) }
+{
+    for j in judges {
+        push_number(j.number(), out)?;
+    }
+    Ok(())
 }
 
 /// Appends an entry.

@@ -9,3 +9,4 @@ pub mod Arguments
 pub mod Derived
 pub mod Named
 pub mod CallerLemmas
+pub mod Judged

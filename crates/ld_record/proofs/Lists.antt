@@ -24,7 +24,7 @@ pub all_last : (P : ℕ → Type 0) (xs : List ℕ) (x : ℕ) → AllByRecursion
 all_last P [] x h = (tt, h.0)
 all_last P (y ∷ ys) x h = let t = all_last P ys x h.1 in ((h.0, t.0), t.1)
 
-extended_last : (us : Trees) (ts : List Tree) (t : Tree) → extended us (ts ++ t ∷ []) ≡ extended us ts ▸ t
+pub extended_last : (us : Trees) (ts : List Tree) (t : Tree) → extended us (ts ++ t ∷ []) ≡ extended us ts ▸ t
 extended_last us [] t = refl
 extended_last us (x ∷ ts) t = extended_last (us ▸ x) ts t
 

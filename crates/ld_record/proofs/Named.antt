@@ -1,7 +1,8 @@
 -- A term in a record of a derivation names entries that are there, with as many arguments as parameters: by induction on
 -- the records, since each rule makes its term and type of those of its premises and of types of entries.
-use Rattle.std.proofs.Common.{◌≡◌, ◌<◌, ℕ, zero, suc, true, false, List, [], ◌∷◌, ◌++◌, length, get_or, refl, ap, sym, ◌∙◌, subst, arith, inl, inr}
+use Rattle.std.proofs.Common.{◌≡◌, ◌<◌, ℕ, zero, suc, true, false, List, [], ◌∷◌, ◌++◌, length, map, get_or, refl, ap, sym, ◌∙◌, subst, arith, inl, inr}
 use Rattle.std.specs.Prelude.{◌-◌, nat_lt, if◌then◌else◌}
+use Rattle.std.specs.List.{AllByRecursion}
 use Rattle.std.proofs.lemmas.Bool.{cases_lt}
 use Rattle.std.proofs.lemmas.Bool.Decides.{nat_tests}
 use Rattle.std.proofs.lemmas.List.{get_or_append_left, get_or_at, length_push}
@@ -10,14 +11,15 @@ use Rattle.ld_terms.specs.Put.{lift, lift_all, in_place, in_place_below, put_bel
 use Rattle.ld_terms.specs.Entry.{Env}
 use Rattle.ld_terms.specs.Entry as entry
 use Rattle.ld_terms.specs.Item.{Item}
-use Rattle.ld_terms.specs.Known.{Known, nothing, Judgement, judgement_at, no_judgement, primitive_entry, with_node, with_entry}
+use Rattle.ld_terms.specs.Known.{Known, nothing, Judgement, judgement_at, no_judgement, primitive_entry, extended, IsNode, with_node, with_entry}
 use Rattle.ld_terms.specs.Named.{IsNamed, AreNamed}
 use Rattle.ld_terms.specs.Record.{params_at}
+use Rattle.ld_record.specs.declared.record.JudgeId.{JudgeId}
 use Rattle.ld_record.specs.declared.record.Step.{Step}
 use Rattle.ld_record.specs.declared.record.Step.TheVariants as step
 use Rattle.ld_record.specs.declared.record.Kept.{Kept}
 use Rattle.ld_record.specs.declared.record.Kept.TheVariants.{Context, Node, Entry, Flag}
-use Rattle.ld_record.specs.Follows.{entry_at, Follows}
+use Rattle.ld_record.specs.Follows.{numbers_of, entry_at, Instance, Follows}
 use Rattle.ld_record.specs.Kept.{with_kept, known_after, judgement_of, entry_by, Fits, AreSound}
 use Rattle.ld_record.specs.Laws.{IsNamedIn, KeptTermsAreNamed}
 
@@ -95,11 +97,20 @@ pub record AreAllNamed (known : Known) : Type 0 where
   pub judgements : (n : ℕ) → n < length known.nodes → IsNamedIn known.env (judgement_at known n)
   pub types : (k : ℕ) → k < length known.env → IsNamed known.env (entry_at known.env k).type
 
-instance_named : (known : Known) (s : Judgement) (k : ℕ) → AreAllNamed known → k < length known.env → (entry_at known.env k).params ≡ Nil
-    → s.term ≡ Const k Nil → s.type ≡ (entry_at known.env k).type → IsNamedIn known.env s
-instance_named known s k all there none term type =
+-- the terms of judgements that are there, at the end of a list of named trees
+arguments_named : (known : Known) (us : Trees) (ns : List ℕ) → AreAllNamed known → AreNamed known.env us → AllByRecursion (IsNode known) ns
+    → AreNamed known.env (extended us (map (λ j. j.term) (map (judgement_at known) ns)))
+arguments_named known us [] all h live = h
+arguments_named known us (n ∷ ns) all h live = arguments_named known (us ▸ (judgement_at known n).term) ns all (h, (all.judgements n live.0).0) live.1
+
+instance_named : (known : Known) (s : Judgement) (n : JudgeId) (ns : List JudgeId) → AreAllNamed known → Instance known s n ns → IsNamedIn known.env s
+instance_named known s n ns all h =
     let N : Tree → Type 0 = λ t. IsNamed known.env t in
-    (subst N (sym term) (there, ap count (sym none), tt), subst N (sym type) (all.types k there))
+    let L : Trees → Type 0 = λ us. AreNamed known.env us in
+    let named = subst L h.judged.terms (arguments_named known Nil (numbers_of ns) all tt h.live) in (
+      subst N (sym h.term) (h.there, h.judged.as_many, named),
+      subst N (sym h.type) (named_put known.env (entry_at known.env h.number).type h.arguments 0 named (all.types h.number h.there)),
+    )
 
 same_named : (known : Known) (s : Judgement) (n m : ℕ) → AreAllNamed known → n < length known.nodes → s ≡ record (judgement_at known n) { entries = m }
     → IsNamedIn known.env s
@@ -134,10 +145,8 @@ named_by known s (step.Abst n m) all h =
     (subst N (sym h.term) (product.0, a.0), subst N (sym h.type) product)
 named_by known s (step.Def n) all h = same_named known s n.0 _ all h.over.live h.over.same
 named_by known s (step.DefPrim n) all h = same_named known s n.0 _ all h.over.live h.over.same
-named_by known s (step.Inst n) all h =
-    instance_named known s h.instance.number all h.instance.there h.instance.params h.instance.term h.instance.type
-named_by known s (step.InstPrim n) all h =
-    instance_named known s h.instance.number all h.instance.there h.instance.params h.instance.term h.instance.type
+named_by known s (step.Inst n ns) all h = instance_named known s n ns all h.instance
+named_by known s (step.InstPrim n ns) all h = instance_named known s n ns all h.instance
 
 node_named : (known : Known) (s : Judgement) → AreAllNamed known → IsNamedIn known.env s → AreAllNamed (with_node known s)
 node_named known s all last = record {

@@ -9,12 +9,12 @@ use Rattle.ld_terms.specs.Tree.{Tree, Star, Box, Var, App, Lam, Pi, Const, Trees
 use Rattle.ld_terms.specs.Put.{lift, put, put_below, put_all_below, in_place_below}
 use Rattle.ld_terms.specs.Entry.{Body, Defined, Primitive, Env, EntryAt, HasBody, defined}
 use Rattle.ld_terms.specs.Rule.{Rule}
-use Rattle.ld_terms.specs.Known.{Known, Judgement, judgement_at, no_judgement, primitive_entry, IsNode, JudgeArguments, FollowsBy}
+use Rattle.ld_terms.specs.Known.{Known, Judgement, judgement_at, no_judgement, primitive_entry, IsNode, FollowsBy}
 use Rattle.ld_terms.specs.Record.{State, RuleIsThere}
 use Rattle.ld_record.specs.declared.record.JudgeId.{JudgeId}
 use Rattle.ld_record.specs.declared.record.Step.{Step}
 use Rattle.ld_record.specs.declared.record.Step.TheVariants as step
-use Rattle.ld_record.specs.Follows.{rule_of, entry_at, IsDefined, Over, Instance, Follows}
+use Rattle.ld_record.specs.Follows.{numbers_of, rule_of, entry_at, IsDefined, Over, Instance, Follows}
 use Rattle.ld_record.specs.Kept.{FitsEntry}
 
 -- nothing put in changes nothing
@@ -63,12 +63,6 @@ has_body : (b : Body) → IsDefined b → (t : Tree) × HasBody b t
 has_body (Defined t) h = (t, defined)
 has_body Primitive h = absurd h
 
--- no arguments for no parameters
-no_arguments : (known : Known) (m : ℕ) (ctx params : Trees) → params ≡ Nil → JudgeArguments known [] m ctx params Nil
-no_arguments known m ctx params none =
-    let P : Trees → Type 0 = λ ps. JudgeArguments known [] m ctx ps Nil in
-    subst P (sym none) (record { over = tt; terms = refl; types = refl; as_many = refl })
-
 module _ (known : Known) where
   abbrev At : ℕ → Judgement
   At n = judgement_at known n
@@ -80,13 +74,13 @@ module _ (known : Known) where
       subst P (sym e) h
 
   -- the star that an instance rests on
-  star_there : (s : Judgement) (n : JudgeId) → Instance known s n → At n.0 ≡ record { entries = s.entries; context = s.context; term = Star; type = Box }
-  star_there s n h = parts (At n.0) s.entries s.context Star Box h.star.entries h.context h.star_term h.star_type
+  star_there : (s : Judgement) (n : JudgeId) (ns : List JudgeId) → Instance known s n ns → At n.0 ≡ record { entries = s.entries; context = s.context; term = Star; type = Box }
+  star_there s n ns h = parts (At n.0) s.entries s.context Star Box h.star.entries h.context h.star_term h.star_type
 
   -- what an instance is
-  instance_is : (s : Judgement) (n : JudgeId) (h : Instance known s n)
-      → s ≡ record { entries = s.entries; context = s.context; term = Const h.number Nil; type = put (entry_at known.env h.number).type Nil }
-  instance_is s n h = parts s s.entries s.context (Const h.number Nil) (put (entry_at known.env h.number).type Nil) refl refl h.term (h.type ∙ sym (put_none (entry_at known.env h.number).type 0))
+  instance_is : (s : Judgement) (n : JudgeId) (ns : List JudgeId) (h : Instance known s n ns)
+      → s ≡ record { entries = s.entries; context = s.context; term = Const h.number h.arguments; type = put (entry_at known.env h.number).type h.arguments }
+  instance_is s n ns h = parts s s.entries s.context (Const h.number h.arguments) (put (entry_at known.env h.number).type h.arguments) refl refl h.term h.type
 
   -- what a judgement over one entry more is
   over_is : (s : Judgement) (n : JudgeId) → Over known s n
@@ -138,17 +132,17 @@ module _ (known : Known) where
       let f = At n.0 in
       follows_as s (record { entries = suc f.entries; context = f.context; term = f.term; type = f.type }) (Rule.DefPrim n.0) (over_is s n h.over)
       (FollowsBy.def_prim (parts f f.entries f.context f.term f.type refl refl refl refl) (entry_there known.env f.entries h.over.there) h.body)
-  follows_by s (step.Inst n) h =
+  follows_by s (step.Inst n ns) h =
       let i = h.instance in
       let e = entry_at known.env i.number in
       let body = has_body e.body h.body in
-      follows_as s (record { entries = s.entries; context = s.context; term = Const i.number Nil; type = put e.type Nil }) (Rule.Inst n.0 []) (instance_is s n i)
-      (FollowsBy.inst (star_there s n i) i.below (entry_there known.env i.number i.there) body.1 (no_arguments known s.entries s.context e.params i.params))
-  follows_by s (step.InstPrim n) h =
+      follows_as s (record { entries = s.entries; context = s.context; term = Const i.number i.arguments; type = put e.type i.arguments }) (Rule.Inst n.0 (numbers_of ns)) (instance_is s n ns i)
+      (FollowsBy.inst (star_there s n ns i) i.below (entry_there known.env i.number i.there) body.1 i.judged)
+  follows_by s (step.InstPrim n ns) h =
       let i = h.instance in
       let e = entry_at known.env i.number in
-      follows_as s (record { entries = s.entries; context = s.context; term = Const i.number Nil; type = put e.type Nil }) (Rule.InstPrim n.0 []) (instance_is s n i)
-      (FollowsBy.inst_prim (star_there s n i) i.below (entry_there known.env i.number i.there) h.body (no_arguments known s.entries s.context e.params i.params))
+      follows_as s (record { entries = s.entries; context = s.context; term = Const i.number i.arguments; type = put e.type i.arguments }) (Rule.InstPrim n.0 (numbers_of ns)) (instance_is s n ns i)
+      (FollowsBy.inst_prim (star_there s n ns i) i.below (entry_there known.env i.number i.there) h.body i.judged)
 
   -- an entry that fits is that of a judgement that is there, and may be kept
   pub entry_names : (name : List ℕ) (j : JudgeId) (prim : Bool) → FitsEntry known name j prim → IsNode known j.0
@@ -164,5 +158,5 @@ premises_there state s (step.Appl n m) h = (h.first.live, h.second.live)
 premises_there state s (step.Abst n m) h = (h.first.live, h.second.live)
 premises_there state s (step.Def n) h = h.over.live
 premises_there state s (step.DefPrim n) h = h.over.live
-premises_there state s (step.Inst n) h = (h.instance.star.live, tt)
-premises_there state s (step.InstPrim n) h = (h.instance.star.live, tt)
+premises_there state s (step.Inst n ns) h = (h.instance.star.live, h.instance.live)
+premises_there state s (step.InstPrim n ns) h = (h.instance.star.live, h.instance.live)

@@ -1,15 +1,19 @@
 -- When a judgement follows from earlier ones by a rule, as facts about its parts. The relation that reads like the rule
 -- table is FollowsBy of ld_terms, to which each of these leads.
-use Rattle.std.specs.Prelude.{◌≡◌, ℕ, ◌+◌, ◌<◌, [], length, slice_index_or}
-use Rattle.ld_terms.specs.Tree.{Tree, Star, Box, Var, App, Lam, Pi, Const, Nil, ◌▸◌}
+use Rattle.std.specs.Prelude.{◌≡◌, ℕ, ◌+◌, ◌<◌, List, [], length, map, slice_index_or}
+use Rattle.std.specs.List.{AllByRecursion}
+use Rattle.ld_terms.specs.Tree.{Tree, Star, Box, Var, App, Lam, Pi, Const, Trees, Nil, ◌▸◌}
 use Rattle.ld_terms.specs.Put.{lift, put}
 use Rattle.ld_terms.specs.Entry.{Entry, Body, Defined, Primitive, Env}
 use Rattle.ld_terms.specs.Derivable.{IsSort}
-use Rattle.ld_terms.specs.Known.{Known, Judgement, judgement_at, no_judgement, primitive_entry}
+use Rattle.ld_terms.specs.Known.{Known, Judgement, judgement_at, no_judgement, primitive_entry, IsNode, JudgeArguments}
 use Rattle.ld_terms.specs.Rule.{Rule}
 use Rattle.ld_record.specs.declared.record.JudgeId.{JudgeId}
 use Rattle.ld_record.specs.declared.record.Step.{Step}
 use Rattle.ld_record.specs.declared.record.Step.TheVariants as step
+
+abbrev pub numbers_of : List JudgeId → List ℕ
+numbers_of js = map (λ j. j.0) js
 
 abbrev pub rule_of : Step → Rule
 rule_of step.Sort = Rule.Sort
@@ -20,8 +24,8 @@ rule_of (step.Appl n m) = Rule.Appl n.0 m.0
 rule_of (step.Abst n m) = Rule.Abst n.0 m.0
 rule_of (step.Def n) = Rule.Def n.0
 rule_of (step.DefPrim n) = Rule.DefPrim n.0
-rule_of (step.Inst n) = Rule.Inst n.0 []
-rule_of (step.InstPrim n) = Rule.InstPrim n.0 []
+rule_of (step.Inst n ns) = Rule.Inst n.0 (numbers_of ns)
+rule_of (step.InstPrim n ns) = Rule.InstPrim n.0 (numbers_of ns)
 
 abbrev pub entry_at : Env → ℕ → Entry
 entry_at env k = slice_index_or env k (primitive_entry [] no_judgement)
@@ -104,8 +108,8 @@ pub record ByDefPrim (known : Known) (s : Judgement) (n : JudgeId) : Type 0 wher
   pub over : Over known s n
   pub body : (entry_at known.env (judgement_at known n.0).entries).body ≡ Primitive
 
--- an instance of an entry without parameters
-pub record Instance (known : Known) (s : Judgement) (n : JudgeId) : Type 0 where
+-- an instance, each of whose arguments has its parameter's type
+pub record Instance (known : Known) (s : Judgement) (n : JudgeId) (ns : List JudgeId) : Type 0 where
   pub star : IsPremise known s n
   pub context : (judgement_at known n.0).context ≡ s.context
   pub star_term : (judgement_at known n.0).term ≡ Star
@@ -113,16 +117,18 @@ pub record Instance (known : Known) (s : Judgement) (n : JudgeId) : Type 0 where
   pub number : ℕ
   pub below : number < s.entries
   pub there : number < length known.env
-  pub params : (entry_at known.env number).params ≡ Nil
-  pub term : s.term ≡ Const number Nil
-  pub type : s.type ≡ (entry_at known.env number).type
+  pub arguments : Trees
+  pub live : AllByRecursion (IsNode known) (numbers_of ns)
+  pub judged : JudgeArguments known (numbers_of ns) s.entries s.context (entry_at known.env number).params arguments
+  pub term : s.term ≡ Const number arguments
+  pub type : s.type ≡ put (entry_at known.env number).type arguments
 
-pub record ByInst (known : Known) (s : Judgement) (n : JudgeId) : Type 0 where
-  pub instance : Instance known s n
+pub record ByInst (known : Known) (s : Judgement) (n : JudgeId) (ns : List JudgeId) : Type 0 where
+  pub instance : Instance known s n ns
   pub body : IsDefined (entry_at known.env instance.number).body
 
-pub record ByInstPrim (known : Known) (s : Judgement) (n : JudgeId) : Type 0 where
-  pub instance : Instance known s n
+pub record ByInstPrim (known : Known) (s : Judgement) (n : JudgeId) (ns : List JudgeId) : Type 0 where
+  pub instance : Instance known s n ns
   pub body : (entry_at known.env instance.number).body ≡ Primitive
 
 abbrev pub Follows : Known → Judgement → Step → Type 0
@@ -134,5 +140,5 @@ Follows known s (step.Appl n m) = ByAppl known s n m
 Follows known s (step.Abst n m) = ByAbst known s n m
 Follows known s (step.Def n) = ByDef known s n
 Follows known s (step.DefPrim n) = ByDefPrim known s n
-Follows known s (step.Inst n) = ByInst known s n
-Follows known s (step.InstPrim n) = ByInstPrim known s n
+Follows known s (step.Inst n ns) = ByInst known s n ns
+Follows known s (step.InstPrim n ns) = ByInstPrim known s n ns

@@ -3,6 +3,7 @@ ghost use Rattle.std.specs.Prelude.{◌≡◌};
 
 use fb_base::Text;
 use ld_terms::TermId;
+use std::marker::Model;
 
 /// The number of a judgement, counted from 0 in the order in which judgements were kept.
 #[derive(Clone, Copy, Debug, PartialEq, Eq)]
@@ -21,8 +22,39 @@ pub struct Judge {
     pub of: TermId,
 }
 
+/// A list of judgements, as the premises for the arguments of an instance.
+#[derive(Debug, Drop)]
+pub struct Judges {
+    judges: Vec<JudgeId>,
+}
+
+impl Model for Judges {
+    ghost use Rattle.std.specs.Prelude.{List};
+    ghost use Rattle.ld_record.specs.declared.record.JudgeId.{JudgeId};
+
+    ghost Value = { List JudgeId };
+
+    ghost view = { λ l. l.judges.items };
+}
+
+impl Judges {
+    /// The list of the vector's judgements, in its memory.
+    pub fn from_vec(items: Vec<JudgeId>) -> Judges
+        ensures { result ≡ items.items }
+    {
+        Judges { judges: items }
+    }
+
+    /// The judgements, in their order.
+    pub fn as_slice(&self) -> &[JudgeId]
+        ensures { result.now ≡ self.now }
+    {
+        &self.judges
+    }
+}
+
 /// A rule with the judgements that are its premises, in the order of the rule table.
-#[derive(Clone, Copy, Debug)]
+#[derive(Debug, Drop)]
 pub enum Step {
     Sort,
     Var(JudgeId),
@@ -33,10 +65,10 @@ pub enum Step {
     Abst(JudgeId, JudgeId),
     Def(JudgeId),
     DefPrim(JudgeId),
-    /// An instance of an entry that has a body and no parameters.
-    Inst(JudgeId),
-    /// An instance of a primitive that has no parameters.
-    InstPrim(JudgeId),
+    /// An instance of an entry that has a body: `* : box`, and a judgement of each argument, in their order.
+    Inst(JudgeId, Judges),
+    /// An instance of a primitive, likewise.
+    InstPrim(JudgeId, Judges),
 }
 
 /// A record.

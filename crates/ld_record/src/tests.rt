@@ -10,9 +10,10 @@ ghost use Rattle.ld_record.specs.Kept.{known_of, IsSound};
 ghost use Rattle.ld_record.specs.Growth.{Knows, Adds, over_first};
 
 use crate::Deriv;
-use crate::record::{Judge, JudgeId, Step};
+use crate::record::{Judge, JudgeId, Judges, Step};
 use fb_base::{NoMemory, Text};
 use ld_terms::{Bank, Node, TermFault, TermId};
+use std::alloc::Global;
 use std::test::Fail;
 
 #[test]
@@ -98,6 +99,7 @@ fn typed(
     a: TermId,
     star: TermId,
     j: JudgeId,
+    alloc: Global,
 ) -> Result<JudgeId, NoMemory>
     requires sound { IsSound bank.now deriv.old }
     requires there { length (known_of bank.now deriv.old).env ≡ 1 }
@@ -117,7 +119,8 @@ fn typed(
         term: a,
         of: star,
     };
-    deriv.emit(bank, judge, Step::InstPrim(j))
+    let none = Judges::from_vec(Vec::new(alloc));
+    deriv.emit(bank, judge, Step::InstPrim(j, none))
 }
 
 // `A : *` over the primitive, in the context of a variable of `A`.
@@ -330,7 +333,7 @@ fn keeps_a_product(rt: HostRuntime) -> Result<(), Fail> {
     let mut deriv = Deriv::new(rt.alloc());
     let first = start(&mut deriv, &bank, star, box_sort)?;
     let over = primitive(&mut deriv, &bank, name, first)?;
-    let type_of_a = typed(&mut deriv, &bank, a, star, over)?;
+    let type_of_a = typed(&mut deriv, &bank, a, star, over, rt.alloc())?;
     let inner = weakened(&mut deriv, &bank, a, star, type_of_a)?;
     let last = formed(&mut deriv, &bank, product, star, type_of_a, inner)?;
     assert_eq!(rt; deriv.count(), 7);
@@ -338,7 +341,7 @@ fn keeps_a_product(rt: HostRuntime) -> Result<(), Fail> {
         "Node(Judge { entries: 0, ctx: CtxId(0), term: TermId(0), of: TermId(1) }, Sort)",
         "Entry(Text { bytes: [65] }, JudgeId(0), true)",
         "Node(Judge { entries: 1, ctx: CtxId(0), term: TermId(0), of: TermId(1) }, DefPrim(JudgeId(0)))",
-        "Node(Judge { entries: 1, ctx: CtxId(0), term: TermId(3), of: TermId(0) }, InstPrim(JudgeId(1)))",
+        "Node(Judge { entries: 1, ctx: CtxId(0), term: TermId(3), of: TermId(0) }, InstPrim(JudgeId(1), Judges { judges: [] }))",
         "Context(CtxId(0), TermId(3))",
         "Node(Judge { entries: 1, ctx: CtxId(1), term: TermId(3), of: TermId(0) }, Weak(JudgeId(2), JudgeId(2)))",
         "Node(Judge { entries: 1, ctx: CtxId(0), term: TermId(4), of: TermId(0) }, Form(JudgeId(2), JudgeId(3)))",
@@ -366,7 +369,7 @@ fn keeps_an_application_and_a_flag(rt: HostRuntime) -> Result<(), Fail> {
     let mut deriv = Deriv::new(rt.alloc());
     let first = start(&mut deriv, &bank, star, box_sort)?;
     let over = primitive(&mut deriv, &bank, name, first)?;
-    let type_of_a = typed(&mut deriv, &bank, a, star, over)?;
+    let type_of_a = typed(&mut deriv, &bank, a, star, over, rt.alloc())?;
     let inner = weakened(&mut deriv, &bank, a, star, type_of_a)?;
     let formed = formed(&mut deriv, &bank, product, star, type_of_a, inner)?;
     let body = variable(&mut deriv, &bank, x, a, type_of_a, inner)?;

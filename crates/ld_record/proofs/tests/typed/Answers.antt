@@ -1,13 +1,18 @@
-use Rattle.std.proofs.Common.{◌≡◌, List, length, refl, ap, sym, subst, arith, IfOk}
-use Rattle.ld_terms.specs.Tree.{Star, Const, Nil}
-use Rattle.ld_terms.specs.Known.{Judgement}
+use Rattle.std.proofs.Common.{◌≡◌, List, [], length, ◌∙◌, refl, ap, sym, subst, arith, IfOk}
+use Rattle.std.specs.List.{AllByRecursion}
+use Rattle.ld_terms.specs.Tree.{Tree, Trees, Star, Const, Nil}
+use Rattle.ld_terms.specs.Put.{put}
+use Rattle.ld_terms.specs.Known.{Judgement, IsNode, JudgeArguments}
 use Rattle.ld_terms.specs.Item.{Item}
 use Rattle.ld_terms.specs.Bank.{StandsFor}
 use Rattle.ld_terms.specs.declared.bank.TermId.{TermId}
+use Rattle.ld_record.specs.declared.record.JudgeId.{JudgeId}
 use Rattle.ld_record.specs.declared.record.CtxId.{CtxId}
 use Rattle.ld_record.specs.declared.record.Kept.{Kept}
 use Rattle.ld_record.specs.declared.record.Step.TheVariants.{InstPrim}
+use Rattle.ld_record.specs.Follows.{numbers_of, entry_at}
 use Rattle.ld_record.specs.Kept.{known_of}
+use Rattle.ld_record.proofs.Judged.{judge_none}
 use Rattle.ld_record.specs.Growth.{Knows}
 use Rattle.ld_record.proofs.CallerLemmas.{Says, said, node_fits, empty_known}
 use Rattle.ld_record.proofs.tests.typed.Goals as goal
@@ -28,7 +33,12 @@ says items ks ctx a star zero one is sort = record {
 
 pub emit-requires-clause-fits : goal.emit-requires-clause-fits
 emit-requires-clause-fits c =
-    node_fits c.args.bank.now (known_of c.args.bank.now c.args.deriv.now) _ typed (InstPrim c.args.j) (says c.args.bank.now c.args.deriv.now c.empty.result c.args.a c.args.star c.empty.ensures c.requires.there c.requires.a c.requires.star) (record {
+    let known = known_of c.args.bank.now c.args.deriv.now in
+    let empty : c.from_vec-none.result ≡ [] = c.from_vec-none.ensures ∙ c.new.ensures.items in
+    let L : List JudgeId → Type 0 = λ js. AllByRecursion (IsNode known) (numbers_of js) in
+    let J : List JudgeId → Type 0 = λ js. JudgeArguments known (numbers_of js) 1 Nil (entry_at known.env 0).params Nil in
+    let P : Trees → Type 0 = λ ps. JudgeArguments known [] 1 Nil ps Nil in
+    node_fits c.args.bank.now known _ typed (InstPrim c.args.j c.from_vec-none.result) (says c.args.bank.now c.args.deriv.now c.empty.result c.args.a c.args.star c.empty.ensures c.requires.there c.requires.a c.requires.star) (record {
       instance = record {
         star = record { live = c.requires.over.live; entries = ap (λ (q : Judgement). q.entries) c.requires.over.is };
         context = ap (λ (q : Judgement). q.context) c.requires.over.is;
@@ -37,9 +47,11 @@ emit-requires-clause-fits c =
         number = 0;
         below = omega arith;
         there = omega (arith, c.requires.there);
-        params = c.requires.params;
+        arguments = Nil;
+        live = subst L (sym empty) tt;
+        judged = subst J (sym empty) (subst P (sym c.requires.params) (judge_none known 1 Nil));
         term = refl;
-        type = sym c.requires.of;
+        type = ap (λ (t : Tree). put t Nil) (sym c.requires.of);
       };
       body = c.requires.body;
     })
