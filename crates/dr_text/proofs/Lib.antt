@@ -4,3 +4,9 @@ pub mod Numbering
 pub mod Named
 pub mod Carrying
 pub mod CallerLemmas
+pub mod Tags
+pub mod Reading
+pub mod Splitting
+pub mod Bodies
+pub mod Placing
+pub mod Once

@@ -9,10 +9,10 @@ use Rattle.ld_record.proofs.Judged.{all_more, numbers_of-last}
 use Rattle.dr_text.specs.Number.{number_within, number}
 use Rattle.dr_text.specs.Spelling.{numbers_bytes}
 
-step_low : (f n : ℕ) → n < 128 → number_within (suc f) n ≡ n ∷ []
+pub step_low : (f n : ℕ) → n < 128 → number_within (suc f) n ≡ n ∷ []
 step_low f n h = rw (lt-ltb n 128 h) refl
 
-step_high : (f n : ℕ) → 128 ≤ n → number_within (suc f) n ≡ (n % 128 + 128) ∷ number_within f (n / 128)
+pub step_high : (f n : ℕ) → 128 ≤ n → number_within (suc f) n ≡ (n % 128 + 128) ∷ number_within f (n / 128)
 step_high f n h = rw (le-ltb n 128 h) refl
 
 -- more room changes nothing

@@ -1,8 +1,14 @@
 //! The derivation file: its header, and the writer of its records.
 #![tactic(auto)]
 
+mod body;
+mod decode;
+pub mod laws;
 mod number;
+pub mod reader;
+pub mod rec;
 mod record;
+mod shape;
 mod terms;
 #[cfg(test)]
 mod tests;

@@ -1,0 +1,23 @@
+//! The laws of derivation files: the bytes determine what is read.
+ghost use Rattle.dr_text.specs.Laws.{OneNumber, OneSpelling, OneRecord, OneList, OneEnvironment};
+
+/// A number's spelling is read one way.
+pub fn one_number()
+    ensures { OneNumber }
+{}
+
+/// One record stands at a place, and its spelling begins that of no other.
+pub fn one_record()
+    ensures spelling { OneSpelling }
+    ensures place { OneRecord }
+{}
+
+/// A file spells one list of records.
+pub fn one_list()
+    ensures { OneList }
+{}
+
+/// A file that derives an environment derives no second one.
+pub fn one_environment()
+    ensures { OneEnvironment }
+{}
