@@ -6,6 +6,8 @@ mod decode;
 pub mod laws;
 mod number;
 pub mod reader;
+#[cfg(test)]
+mod reading_tests;
 pub mod rec;
 mod record;
 mod shape;
