@@ -7,7 +7,7 @@ use Rattle.ld_terms.specs.Rule.{counted}
 use Rattle.ld_terms.specs.Record.{Record, numbers_before, name_of, numbers_behind, start, final}
 use Rattle.dr_text.specs.Number.{number}
 use Rattle.dr_text.specs.Spelling.{tag, numbers_bytes, record_bytes, records_bytes, header, spelling}
-use Rattle.dr_text.specs.Read.{IsRecordAt}
+use Rattle.dr_text.specs.Read.{IsRecordAt, Parts, parts_of}
 use Rattle.dr_text.specs.Shapes.{Fits}
 use Rattle.dr_text.specs.Derives.{Derives}
 use Rattle.dr_text.specs.declared.shape.Shape.{Shape}
@@ -84,6 +84,20 @@ one_spelling r q rest rest' e =
 
 pub one_record : (bytes : List ℕ) (at : ℕ) (r q : Record) → IsRecordAt bytes at r → IsRecordAt bytes at q → r ≡ q
 one_record bytes at r q f g = (one_spelling r q f.rest g.rest (sym f.is ∙ g.is)).0
+
+-- the numbers before a name and those behind it
+one_split : (s : Shape) (b n c b' n' c' : List ℕ) → Fits s b n c → Fits s b' n' c' → b ++ c ≡ b' ++ c' → (b ≡ b') × (c ≡ c')
+one_split (Plain count) b n c b' n' c' f g e = (sym (append-nil b) ∙ ap (λ x. b ++ x) (sym f.2) ∙ e ∙ ap (λ x. b' ++ x) g.2 ∙ append-nil b', f.2 ∙ sym g.2)
+one_split (Counted front) b n c b' n' c' f g e = (sym (append-nil b) ∙ ap (λ x. b ++ x) (sym f.2) ∙ e ∙ ap (λ x. b' ++ x) g.2 ∙ append-nil b', f.2 ∙ sym g.2)
+one_split Named b n c b' n' c' f g e = same_front b b' c c' (ap length f.0 ∙ sym (ap length g.0)) e
+
+pub one_of_parts : (r q : Record) → parts_of r ≡ parts_of q → r ≡ q
+one_of_parts r q e =
+    let tags : tag r ≡ tag q = ap (λ (p : Parts). p.tag) e in
+    let shape = shape_of_record r in
+    let one = one_split shape.0 (numbers_before r) (name_of r) (numbers_behind r) (numbers_before q) (name_of q) (numbers_behind q)
+    (fits_shape r shape.0 shape.1) (fits_shape q shape.0 (ap shape_at (sym tags) ∙ shape.1)) (ap (λ (p : Parts). p.numbers) e) in
+    sym (made_again r) ∙ same_record made (tag r) (tag q) _ _ _ _ _ _ tags one.0 (ap (λ (p : Parts). p.name) e) one.1 ∙ made_again q
 
 one_records : (rs qs : List Record) → records_bytes rs ≡ records_bytes qs → rs ≡ qs
 one_records [] [] e = refl

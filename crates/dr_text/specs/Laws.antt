@@ -5,7 +5,7 @@ use Rattle.ld_terms.specs.Known.{Note}
 use Rattle.ld_terms.specs.Record.{Record}
 use Rattle.dr_text.specs.Number.{number}
 use Rattle.dr_text.specs.Spelling.{record_bytes, spelling}
-use Rattle.dr_text.specs.Read.{IsRecordAt}
+use Rattle.dr_text.specs.Read.{IsRecordAt, parts_of}
 use Rattle.dr_text.specs.Derives.{Derives}
 
 -- two numbers whose spellings begin the same bytes are one, and so are the bytes behind them
@@ -19,6 +19,10 @@ OneSpelling = (r q : Record) (rest rest' : List ℕ) → record_bytes r ++ rest 
 -- one record stands at a place
 abbrev pub OneRecord : Type 0
 OneRecord = (bytes : List ℕ) (at : ℕ) (r q : Record) → IsRecordAt bytes at r → IsRecordAt bytes at q → r ≡ q
+
+-- a record is told by its tag, its numbers and its name
+abbrev pub OneOfParts : Type 0
+OneOfParts = (r q : Record) → parts_of r ≡ parts_of q → r ≡ q
 
 -- the bytes of a file spell one list of records
 abbrev pub OneList : Type 0

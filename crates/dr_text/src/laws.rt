@@ -1,5 +1,5 @@
 //! The laws of derivation files: the bytes determine what is read.
-ghost use Rattle.dr_text.specs.Laws.{OneNumber, OneSpelling, OneRecord, OneList, OneEnvironment};
+ghost use Rattle.dr_text.specs.Laws.{OneNumber, OneSpelling, OneRecord, OneOfParts, OneList, OneEnvironment};
 
 /// A number's spelling is read one way.
 pub fn one_number()
@@ -10,6 +10,11 @@ pub fn one_number()
 pub fn one_record()
     ensures spelling { OneSpelling }
     ensures place { OneRecord }
+{}
+
+/// What a [`Rec`](crate::rec::Rec) gives is that of one record.
+pub fn one_of_parts()
+    ensures { OneOfParts }
 {}
 
 /// A file spells one list of records.
