@@ -20,8 +20,8 @@ pub enum RecordFault {
     /// The file ends between two records, and no end record was read.
     #[error("the file has no end record")]
     Unfinished,
-    /// The record names something that isn't there, by this number.
-    #[error("the number {0} names nothing")]
+    /// The record of this number, counted from 0, names something that isn't there before it.
+    #[error("record {0} names something that isn't there")]
     BadRef(u64),
     /// The record of this number, counted from 0, doesn't meet its condition.
     #[error("record {0} doesn't follow")]
