@@ -15,7 +15,7 @@ pub context_of-push : (items : List Item) (vs : List Variable) (v : Variable) �
 context_of-push items vs v =
     ap (listed items Nil) (map-append (λ (x : Variable). x.of) vs (v ∷ [])) ∙ listed-push items Nil (types_of vs) v.of
 
-count-listed : (items : List Item) (us : Trees) (ts : List TermId) → count (listed items us ts) ≡ count us + length ts
+pub count-listed : (items : List Item) (us : Trees) (ts : List TermId) → count (listed items us ts) ≡ count us + length ts
 count-listed items us [] = omega arith
 count-listed items us (t ∷ ts) = let more = count-listed items (us ▸ tree_at items t) ts in omega arith
 

@@ -16,13 +16,15 @@ use Rattle.ld_terms.specs.declared.bank.TermFault.TheVariants as term
 use Rattle.ld_record.specs.declared.record.JudgeId.{JudgeId}
 use Rattle.ld_record.specs.Growth.{Knows}
 use Rattle.ld_infer.specs.declared.failure.RuleName.TheVariants.{Abst, Appl}
+use Rattle.ld_infer.specs.declared.failure.PathStep.{PathStep}
+use Rattle.ld_infer.specs.declared.failure.PathStep.TheVariants.{Arg}
 use Rattle.ld_infer.specs.declared.failure.InferFault.{InferFault}
 use Rattle.ld_infer.specs.declared.failure.InferFault.TheVariants as fault
 use Rattle.ld_infer.specs.declared.inference.Typed.{Typed}
 use Rattle.ld_infer.specs.declared.inference.FunctionTyped.{FunctionTyped}
 use Rattle.ld_infer.specs.Task.{Task, Gives}
 use Rattle.ld_infer.specs.Account.{Account, Comes}
-use Rattle.ld_infer.specs.Reading.{Refusal, found, Types, part_reading, again_unless, body_reading, function_reading, argument_reading, application_reading}
+use Rattle.ld_infer.specs.Reading.{Asked, Refusal, found, Types, part_reading, again_unless, body_reading, function_reading, argument_reading, application_reading}
 use Rattle.ld_infer.specs.Standing.{Standing, known, env, here, Continues, KnowsSort}
 use Rattle.ld_infer.specs.Infers.{Stops, IsTyped, IsTypedAgain, IsBodyTyped, IsFunctionTyped, IsSuited, stop_of}
 use Rattle.ld_infer.proofs.Going.{continues_trans, here_stays, term_stays, tree_stays, knows_stays}
@@ -45,24 +47,26 @@ function_typed a b nest f x dom ran w w' h at_dom at_ran e =
       judged = subst P e h.judged;
     }
 
-pub argument_typed : (a b : Standing) (nest : ℕ) (u wanted : TermId) (x : Typed) (w w' : Account) → IsTyped a b (Types (env a) a.context (nest + 1) (Appl, 2) (tree_at a.items u)) u w w' x
-    → tree_at b.items x.of ≡ tree_at a.items wanted → IsSuited a b (argument_reading (env a) (part_reading nest (env a)) a.context (tree_at a.items u) (tree_at a.items wanted)) u wanted w w' x.judge
-argument_typed a b nest u wanted x w w' h e =
+pub argument_typed : (a b : Standing) (nest : ℕ) (s : PathStep) (q : Asked) (wanted u : TermId) (x : Typed) (w w' : Account) → IsTyped a b (Types (env a) a.context (nest + 1) q (tree_at a.items u)) u w w' x
+    → tree_at b.items x.of ≡ tree_at a.items wanted
+    → IsSuited a b (argument_reading (env a) (count a.context) (part_reading nest (env a) a.context) s q (tree_at a.items wanted) (tree_at a.items u)) (tree_at a.items u) (tree_at a.items wanted) w w' x.judge
+argument_typed a b nest s q wanted u x w w' h e =
     let P : Tree → Type 0 = λ y. Knows (known b) x.judge (here a (tree_at a.items u) y) in
     record {
-      gives = argument_given (env a) (part_reading nest (env a)) a.context (tree_at a.items u) (tree_at b.items x.of) (tree_at a.items wanted) (is_some x.of_judge) w w' h.gives e;
+      gives = argument_given (env a) (count a.context) (part_reading nest (env a) a.context) s q (tree_at a.items wanted) (tree_at a.items u) (tree_at b.items x.of) (is_some x.of_judge) w w' h.gives e;
       judged = subst P e h.judged;
     }
 
 -- Applications: the standings are those at the start, behind the function, the argument, the type and the judgement.
 pub argument_moved : (a b : Standing) (nest : ℕ) (u : TermId) (dom : Tree) (P : Task Refusal (Unit {0}) → Type 0) → Continues a b → IsTermAt a.items u
-    → P (argument_reading (env b) (part_reading nest (env b)) b.context (tree_at b.items u) dom) → P (argument_reading (env a) (part_reading nest (env a)) a.context (tree_at a.items u) dom)
+    → P (argument_reading (env b) (count b.context) (part_reading nest (env b) b.context) Arg (Appl, 2) dom (tree_at b.items u))
+    → P (argument_reading (env a) (count a.context) (part_reading nest (env a) a.context) Arg (Appl, 2) dom (tree_at a.items u))
 argument_moved a b nest u dom P goes at h =
-    at_same (λ Δ ctx t. P (argument_reading Δ (part_reading nest Δ) ctx t dom)) goes.adds.env goes.context (tree_stays a b u goes at) h
+    at_same (λ Δ ctx t. P (argument_reading Δ (count ctx) (part_reading nest Δ ctx) Arg (Appl, 2) dom t)) goes.adds.env goes.context (tree_stays a b u goes at) h
 
 pub application_refused : (a b c : Standing) (nest : ℕ) (f u : TermId) (x : FunctionTyped) (g : InferFault) (w w1 w2 : Account) → Continues a b → IsTermAt a.items u
     → IsFunctionTyped a b (function_reading (env a) (part_reading nest (env a)) a.context (tree_at a.items f)) f w w1 x
-    → Stops c.items (argument_reading (env b) (part_reading nest (env b)) b.context (tree_at b.items u) (tree_at b.items x.domain)) g w1 w2
+    → Stops c.items (argument_reading (env b) (count b.context) (part_reading nest (env b) b.context) Arg (Appl, 2) (tree_at b.items x.domain) (tree_at b.items u)) g w1 w2
     → Stops c.items (application_reading (env a) (part_reading nest (env a)) a.context (tree_at a.items f) (tree_at a.items u)) g w w2
 application_refused a b c nest f u x g w w1 w2 goes at h s =
     application_stops_argument (env a) (part_reading nest (env a)) a.context c.items (tree_at a.items f) (tree_at a.items u) (tree_at b.items x.domain) (tree_at b.items x.range) g w w1 w2 h.gives
@@ -71,7 +75,7 @@ application_refused a b c nest f u x g w w1 w2 goes at h s =
 pub application_high : (a b c d : Standing) (nest : ℕ) (f u : TermId) (x : FunctionTyped) (j : JudgeId) (y : TermFault) (g : InferFault) (w w1 w2 : Account)
     → Continues a b → Continues b c → IsTermAt a.items u
     → IsFunctionTyped a b (function_reading (env a) (part_reading nest (env a)) a.context (tree_at a.items f)) f w w1 x
-    → IsSuited b c (argument_reading (env b) (part_reading nest (env b)) b.context (tree_at b.items u) (tree_at b.items x.domain)) u x.domain w1 w2 j
+    → IsSuited b c (argument_reading (env b) (count b.context) (part_reading nest (env b) b.context) Arg (Appl, 2) (tree_at b.items x.domain) (tree_at b.items u)) (tree_at b.items u) (tree_at b.items x.domain) w1 w2 j
     → (y ≡ term.High → ¬ IsSmall (One (put (tree_at c.items x.range) (Nil ▸ tree_at c.items u)))) → g ≡ fault.Stop (stop_of y)
     → Stops d.items (application_reading (env a) (part_reading nest (env a)) a.context (tree_at a.items f) (tree_at a.items u)) g w w2
 application_high a b c d nest f u x j y g w w1 w2 goes more at h s high e =
@@ -84,7 +88,7 @@ application_high a b c d nest f u x j y g w w1 w2 goes more at h s high e =
 pub application_typed : (a b c d k : Standing) (nest : ℕ) (t f u : TermId) (x : FunctionTyped) (j : JudgeId) (of : TermId) (judge : JudgeId) (w w1 w2 : Account)
     → Continues a b → Continues b c → Continues c d → Continues d k → IsTermAt a.items t → IsTermAt a.items u
     → IsFunctionTyped a b (function_reading (env a) (part_reading nest (env a)) a.context (tree_at a.items f)) f w w1 x
-    → IsSuited b c (argument_reading (env b) (part_reading nest (env b)) b.context (tree_at b.items u) (tree_at b.items x.domain)) u x.domain w1 w2 j
+    → IsSuited b c (argument_reading (env b) (count b.context) (part_reading nest (env b) b.context) Arg (Appl, 2) (tree_at b.items x.domain) (tree_at b.items u)) (tree_at b.items u) (tree_at b.items x.domain) w1 w2 j
     → IsTermAt d.items of → tree_at d.items of ≡ put (tree_at c.items x.range) (Nil ▸ tree_at c.items u) → IsSmall (One (tree_at d.items of))
     → Knows (known k) judge (here d (tree_at d.items t) (tree_at d.items of))
     → IsTyped a k (application_reading (env a) (part_reading nest (env a)) a.context (tree_at a.items f) (tree_at a.items u)) t w w2 (record { of = of; judge = judge; of_judge = None })

@@ -16,5 +16,7 @@ pub mod Binding
 pub mod Applying
 pub mod Inferring
 pub mod Around
+pub mod Prefixing
+pub mod Judging
 pub mod Instances
 pub mod Closed

@@ -1,11 +1,12 @@
--- The function and the argument of an application, from what is answered for them.
-use Rattle.std.proofs.Common.{◌≡◌, Bool, true, false, List, Option, Some, None, ap, sym, subst}
+-- The function of an application, and arguments, from what is answered for them.
+use Rattle.std.proofs.Common.{◌≡◌, ℕ, Bool, true, false, List, Option, Some, None, ap, sym, subst}
 use Rattle.ld_terms.specs.Tree.{Tree, Trees, Pi, count}
 use Rattle.ld_terms.specs.Item.{Item}
 use Rattle.ld_terms.specs.Entry.{Env}
 use Rattle.ld_terms.specs.Tests.{equals}
 use Rattle.ld_infer.specs.declared.failure.RuleName.TheVariants.{Appl}
-use Rattle.ld_infer.specs.declared.failure.PathStep.TheVariants.{Fun, Arg}
+use Rattle.ld_infer.specs.declared.failure.PathStep.{PathStep}
+use Rattle.ld_infer.specs.declared.failure.PathStep.TheVariants.{Fun}
 use Rattle.ld_infer.specs.declared.failure.InferFault.{InferFault}
 use Rattle.ld_infer.specs.Task.{Task, Gives, NotBuilt, Ends}
 use Rattle.ld_infer.specs.Account.{Account, Comes}
@@ -41,27 +42,29 @@ module _ (Δ : Env) (read : Trees → Asked → Tree → Task Refusal Found) (ct
       comes_faulted (inside Fun) _ NotBuilt w w'
       (comes_then (read ctx (Appl, 1) f) _ (found type comes) NotBuilt w w' w' h (no_product (product_of type) (Appl, 1) type w' e))
 
-  suited : (same : Bool) (q : Asked) (type wanted : Tree) (w : Account) → same ≡ true → Comes (suits Δ (count ctx) (read ctx) same q type wanted) (Gives tt) w w
+-- an argument, where read is the reading of parts in a context of so many variables
+module _ (Δ : Env) (depth : ℕ) (read : Asked → Tree → Task Refusal Found) where
+  suited : (same : Bool) (q : Asked) (type wanted : Tree) (w : Account) → same ≡ true → Comes (suits Δ depth read same q type wanted) (Gives tt) w w
   suited same q type wanted w e =
-      let P : Bool → Type 0 = λ x. Comes (suits Δ (count ctx) (read ctx) x q type wanted) (Gives tt) w w in subst P (sym e) (gives_now tt w)
+      let P : Bool → Type 0 = λ x. Comes (suits Δ depth read x q type wanted) (Gives tt) w w in subst P (sym e) (gives_now tt w)
 
-  not_suited : (same : Bool) (q : Asked) (type wanted : Tree) (w : Account) → same ≡ false → Comes (suits Δ (count ctx) (read ctx) same q type wanted) NotBuilt w w
+  not_suited : (same : Bool) (q : Asked) (type wanted : Tree) (w : Account) → same ≡ false → Comes (suits Δ depth read same q type wanted) NotBuilt w w
   not_suited same q type wanted w e =
-      let P : Bool → Type 0 = λ x. Comes (suits Δ (count ctx) (read ctx) x q type wanted) NotBuilt w w in
+      let P : Bool → Type 0 = λ x. Comes (suits Δ depth read x q type wanted) NotBuilt w w in
       subst P (sym e) (comes_ended _ _ NotBuilt NotBuilt w w (comes_faulted _ _ NotBuilt w w (not_built_now w)) Ends.unbuilt)
 
-  pub argument_stops : (items : List Item) (u wanted : Tree) (x g : InferFault) (w w' : Account) → Stops items (read ctx (Appl, 2) u) x w w' → IsWithin Arg x g
-      → Stops items (argument_reading Δ read ctx u wanted) g w w'
-  argument_stops items u wanted x g w w' h is = stops_within items Arg _ x g w w' (stops_first items (read ctx (Appl, 2) u) _ x w w' h) is
+  pub argument_stops : (items : List Item) (s : PathStep) (q : Asked) (wanted u : Tree) (x g : InferFault) (w w' : Account) → Stops items (read q u) x w w' → IsWithin s x g
+      → Stops items (argument_reading Δ depth read s q wanted u) g w w'
+  argument_stops items s q wanted u x g w w' h is = stops_within items s _ x g w w' (stops_first items (read q u) _ x w w' h) is
 
-  pub argument_given : (u type wanted : Tree) (comes : Bool) (w w' : Account) → Comes (read ctx (Appl, 2) u) (Gives (found type comes)) w w' → type ≡ wanted
-      → Comes (argument_reading Δ read ctx u wanted) (Gives tt) w w'
-  argument_given u type wanted comes w w' h e =
-      gives_within Arg _ tt w w'
-      (comes_then (read ctx (Appl, 2) u) _ (found type comes) (Gives tt) w w' w' h (suited (equals type wanted) (Appl, 2) type wanted w' (equal_trees type wanted e)))
+  pub argument_given : (s : PathStep) (q : Asked) (wanted u type : Tree) (comes : Bool) (w w' : Account) → Comes (read q u) (Gives (found type comes)) w w' → type ≡ wanted
+      → Comes (argument_reading Δ depth read s q wanted u) (Gives tt) w w'
+  argument_given s q wanted u type comes w w' h e =
+      gives_within s _ tt w w'
+      (comes_then (read q u) _ (found type comes) (Gives tt) w w' w' h (suited (equals type wanted) q type wanted w' (equal_trees type wanted e)))
 
-  pub argument_not_built : (u type wanted : Tree) (comes : Bool) (w w' : Account) → Comes (read ctx (Appl, 2) u) (Gives (found type comes)) w w' → (type ≡ wanted → ⊥)
-      → Comes (argument_reading Δ read ctx u wanted) NotBuilt w w'
-  argument_not_built u type wanted comes w w' h n =
-      comes_faulted (inside Arg) _ NotBuilt w w'
-      (comes_then (read ctx (Appl, 2) u) _ (found type comes) NotBuilt w w' w' h (not_suited (equals type wanted) (Appl, 2) type wanted w' (other_trees type wanted n)))
+  pub argument_not_built : (s : PathStep) (q : Asked) (wanted u type : Tree) (comes : Bool) (w w' : Account) → Comes (read q u) (Gives (found type comes)) w w' → (type ≡ wanted → ⊥)
+      → Comes (argument_reading Δ depth read s q wanted u) NotBuilt w w'
+  argument_not_built s q wanted u type comes w w' h n =
+      comes_faulted (inside s) _ NotBuilt w w'
+      (comes_then (read q u) _ (found type comes) NotBuilt w w' w' h (not_suited (equals type wanted) q type wanted w' (other_trees type wanted n)))

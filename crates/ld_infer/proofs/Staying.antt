@@ -18,3 +18,6 @@ known_here a b c j t t' type type' h same is k =
 -- a fact that holds at some values holds at the same ones
 pub at_same : {A B C : Type 0} (P : A → B → C → Type 0) {a a' : A} {b b' : B} {c c' : C} → a ≡ a' → b ≡ b' → c ≡ c' → P a b c → P a' b' c'
 at_same P {a' = a'} {b = b} {b' = b'} {c = c} p q r h = subst (λ z. P a' b' z) r (subst (λ y. P a' y c) q (subst (λ x. P x b c) p h))
+
+pub at_both : {A B : Type 0} (P : A → B → Type 0) {a a' : A} {b b' : B} → a ≡ a' → b ≡ b' → P a b → P a' b'
+at_both P {a' = a'} {b = b} p q h = subst (λ y. P a' y) q (subst (λ x. P x b) p h)

@@ -1,16 +1,21 @@
 -- What type inference answers.
-use Rattle.std.specs.Prelude.{◌≡◌, ◌⊎◌, ℕ, Bool, List, ◌∷◌, ⊤, Option, Some, None, IfSome, is_some, Result, Ok, Err}
-use Rattle.ld_terms.specs.Tree.{Tree, Var, Pi, count}
+use Rattle.std.specs.Prelude.{◌≡◌, ◌<◌, ◌⊎◌, ℕ, Bool, List, ◌∷◌, length, slice_index_or, ⊤, Option, Some, None, IfSome, is_some, Result, Ok, Err}
+use Rattle.std.specs.List.{AllByRecursion}
+use Rattle.std.specs.Global.{Vec}
+use Rattle.ld_terms.specs.Tree.{Tree, Trees, Var, Pi, count}
 use Rattle.ld_terms.specs.Item.{Item, One, IsSmall}
-use Rattle.ld_terms.specs.Bank.{tree_at, IsTermAt}
+use Rattle.ld_terms.specs.Bank.{tree_at, list_at, IsTermAt, IsListAt}
 use Rattle.ld_terms.specs.Derivable.{IsSort}
-use Rattle.ld_terms.specs.Named.{IsWellFormed}
+use Rattle.ld_terms.specs.Named.{IsWellFormed, AreNamed}
+use Rattle.ld_terms.specs.Entry.{AreScoped}
+use Rattle.ld_terms.specs.Known.{IsNode, JudgeArguments}
 use Rattle.ld_terms.specs.declared.bank.TermId.{TermId}
 use Rattle.ld_terms.specs.declared.bank.TermFault.{TermFault}
 use Rattle.ld_terms.specs.declared.bank.TermFault.TheVariants as term
 use Rattle.ld_record.specs.declared.record.JudgeId.{JudgeId}
 use Rattle.ld_record.specs.declared.record.Step.{Step}
 use Rattle.ld_record.specs.declared.record.Step.TheVariants.{Inst, InstPrim}
+use Rattle.ld_record.specs.Follows.{numbers_of}
 use Rattle.ld_record.specs.Growth.{Knows}
 use Rattle.ld_infer.specs.declared.failure.Why.{Why}
 use Rattle.ld_infer.specs.declared.failure.Why.TheVariants as why
@@ -27,7 +32,7 @@ use Rattle.ld_infer.specs.declared.theory.VariableTyped.{VariableTyped}
 use Rattle.ld_infer.specs.Task.{Task, Gives, Fails, High, Nested, NotBuilt}
 use Rattle.ld_infer.specs.Account.{Account, Comes, RunsOut}
 use Rattle.ld_infer.specs.Reading.{Reason, NoType, NotSort, NotFunction, BoxBody, NotSame, Again, Refusal, Found, found, type_in}
-use Rattle.ld_infer.specs.Standing.{Standing, known, env, here, KnowsSort}
+use Rattle.ld_infer.specs.Standing.{Standing, known, env, here, without, KnowsSort}
 
 abbrev pub stop_of : TermFault → Stop
 stop_of term.High = stop.High
@@ -118,13 +123,28 @@ InfersFunction old new p f before after (Ok r) = IsFunctionTyped old new p f bef
 InfersFunction old new p f before after (Err e) = Stops new.items p e before after
 
 -- the term has the type that is wanted
-pub record IsSuited (old new : Standing) (p : Task Refusal (Unit {0})) (u wanted : TermId) (before after : Account) (j : JudgeId) : Type 0 where
+pub record IsSuited (old new : Standing) (p : Task Refusal (Unit {0})) (u wanted : Tree) (before after : Account) (j : JudgeId) : Type 0 where
   pub gives : Comes p (Gives tt) before after
-  pub judged : Knows (known new) j (here old (tree_at old.items u) (tree_at old.items wanted))
+  pub judged : Knows (known new) j (here old u wanted)
 
-abbrev pub Suits : (old new : Standing) → Task Refusal (Unit {0}) → (u wanted : TermId) → (before after : Account) → Result JudgeId InferFault → Type 0
+abbrev pub Suits : (old new : Standing) → Task Refusal (Unit {0}) → (u wanted : Tree) → (before after : Account) → Result JudgeId InferFault → Type 0
 Suits old new p u wanted before after (Ok j) = IsSuited old new p u wanted before after j
 Suits old new p u wanted before after (Err e) = Stops new.items p e before after
+
+-- the arguments have their parameters' types, by a judgement for each, in order
+pub record AreJudged (old new : Standing) (p : Task Refusal (Unit {0})) (params us : Trees) (before after : Account) (js : List JudgeId) : Type 0 where
+  pub gives : Comes p (Gives tt) before after
+  pub live : AllByRecursion (IsNode (known new)) (numbers_of js)
+  pub judged : JudgeArguments (known new) (numbers_of js) (length (env old)) old.context params us
+
+abbrev pub JudgesArguments : (old new : Standing) → Task Refusal (Unit {0}) → (params us : Trees) → (before after : Account) → Result (Vec JudgeId) InferFault → Type 0
+JudgesArguments old new p params us before after (Ok js) = AreJudged old new p params us before after js.items
+JudgesArguments old new p params us before after (Err f) = Stops new.items p f before after
+
+-- the lists that are left of a list of trees without its last ones, for each number of those
+pub record ArePrefixes (items : List Item) (us : Trees) (lists : List TermId) : Type 0 where
+  pub as_many : length lists ≡ count us
+  pub each : (i : ℕ) (d : TermId) → i < length lists → IsListAt items (slice_index_or lists i d) × (list_at items (slice_index_or lists i d) ≡ without i us)
 
 -- the fault is this refusal
 abbrev pub IsRefusedBy : List Item → Refusal → InferFault → Type 0
@@ -156,7 +176,11 @@ pub record IsVariableTyped (old new : Standing) (i : ℕ) (v : VariableTyped) : 
 abbrev pub IsReadable : Standing → TermId → Type 0
 IsReadable s t = IsTermAt s.items t × IsWellFormed (env s) (count s.context) (tree_at s.items t)
 
+-- arguments that are over the theory's entries and variables
+abbrev pub AreReadable : Standing → Trees → Type 0
+AreReadable s us = AreNamed (env s) us × AreScoped us (count s.context)
+
 -- the rule for an instance of an entry that has a body, or of a primitive
-abbrev pub IsInstanceStep : Option TermId → JudgeId → Step → Type 0
-IsInstanceStep (Some body) star step = step ≡ Inst star
-IsInstanceStep None star step = step ≡ InstPrim star
+abbrev pub IsInstanceStep : Option TermId → JudgeId → List JudgeId → Step → Type 0
+IsInstanceStep (Some body) star judges step = step ≡ Inst star judges
+IsInstanceStep None star judges step = step ≡ InstPrim star judges

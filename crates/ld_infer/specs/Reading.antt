@@ -3,11 +3,12 @@ use Rattle.std.specs.Prelude.{ℕ, zero, suc, ◌+◌, ◌-◌, Bool, true, fals
 use Rattle.ld_terms.specs.Tree.{Tree, Star, Box, Var, App, Lam, Pi, Const, Trees, Nil, ◌▸◌, count}
 use Rattle.ld_terms.specs.Put.{lift, put}
 use Rattle.ld_terms.specs.Entry.{Entry, Env}
+use Rattle.ld_terms.specs.Entry as entry
 use Rattle.ld_terms.specs.Tests.{equals, is_star, is_box}
 use Rattle.ld_infer.specs.declared.failure.RuleName.{RuleName}
-use Rattle.ld_infer.specs.declared.failure.RuleName.TheVariants.{Form, Appl, Abst}
+use Rattle.ld_infer.specs.declared.failure.RuleName.TheVariants.{Form, Appl, Abst, Inst, InstPrim}
 use Rattle.ld_infer.specs.declared.failure.PathStep.{PathStep}
-use Rattle.ld_infer.specs.declared.failure.PathStep.TheVariants.{Dom, Ran, Fun, Arg, Body}
+use Rattle.ld_infer.specs.declared.failure.PathStep.TheVariants.{Dom, Ran, Fun, Arg, Body, Nth}
 use Rattle.ld_infer.specs.Task.{Task, gives, fails, nested, not_built, no_answer, step, formed, ◌>>=◌, ◌>>◌, faults_by}
 
 -- a rule and the number of a premise, for which a reading is asked
@@ -126,12 +127,25 @@ module _ (env : Env) (depth : ℕ) (read : Asked → Tree → Task Refusal Found
   product_in (Some p) q type = gives p
   product_in None q type = exposed env type >>= λ t. exposed_product (product_of t) q type
 
-  -- Each argument of an instance is to have its parameter's type. Instances with arguments are not built yet.
-  abbrev pub arguments : (params us : Trees) → Task Refusal (Unit {0})
-  arguments Nil Nil = gives tt
-  arguments (ps ▸ p) (us ▸ u) = not_built
-  arguments Nil (us ▸ u) = no_answer
-  arguments (ps ▸ p) Nil = no_answer
+  -- the reading of an argument, which is to have the type that is wanted
+  abbrev pub argument_reading : PathStep → Asked → (wanted u : Tree) → Task Refusal (Unit {0})
+  argument_reading s q wanted u = within s (read q u >>= λ r. suits (equals r.type wanted) q r.type wanted)
+
+  -- The argument behind so many is to have its parameter's type, with those put in.
+  abbrev pub next_argument : RuleName → (p : Tree) → (us : Trees) → (u : Tree) → Task Refusal (Unit {0})
+  next_argument rule p us u = formed (put p us) >>= λ wanted. argument_reading (Nth (suc (count us))) (rule, suc (count us)) wanted u
+
+  -- Each argument of an instance is to have its parameter's type, with the arguments before it put in.
+  abbrev pub arguments : RuleName → (params us : Trees) → Task Refusal (Unit {0})
+  arguments rule Nil Nil = gives tt
+  arguments rule (ps ▸ p) (us ▸ u) = arguments rule ps us >> next_argument rule p us u
+  arguments rule Nil (us ▸ u) = no_answer
+  arguments rule (ps ▸ p) Nil = no_answer
+
+-- the rule for an instance of an entry with this body
+abbrev pub instance_rule : entry.Body → RuleName
+instance_rule (entry.Defined t) = Inst
+instance_rule entry.Primitive = InstPrim
 
 -- the reading of a variable whose type is this
 abbrev pub variable_reading : Option Tree → Task Refusal Found
@@ -166,19 +180,16 @@ module _ (env : Env) (read : Trees → Asked → Tree → Task Refusal Found) (c
   abbrev pub function_reading : (f : Tree) → Task Refusal (Tree × Tree)
   function_reading f = within Fun (read ctx (Appl, 1) f >>= λ r. product_in env (count ctx) (read ctx) (product_of r.type) (Appl, 1) r.type)
 
-  abbrev pub argument_reading : (u wanted : Tree) → Task Refusal (Unit {0})
-  argument_reading u wanted = within Arg (read ctx (Appl, 2) u >>= λ r. suits env (count ctx) (read ctx) (equals r.type wanted) (Appl, 2) r.type wanted)
-
   abbrev pub application_reading : (f u : Tree) → Task Refusal Found
   application_reading f u =
       function_reading f >>= λ p.
-      argument_reading u p.0 >>
+      argument_reading env (count ctx) (read ctx) Arg (Appl, 2) p.0 u >>
       (formed (put p.1 (Nil ▸ u)) >>= λ n. gives (found n false))
 
   abbrev pub instance_reading : Option Entry → (us : Trees) → Task Refusal Found
   instance_reading None us = no_answer
   instance_reading (Some e) us =
-      arguments env (count ctx) (read ctx) e.params us >>
+      arguments env (count ctx) (read ctx) (instance_rule e.body) e.params us >>
       (formed (put e.type us) >>= λ n. gives (found n false))
 
   abbrev pub reading : Asked → Tree → Task Refusal Found

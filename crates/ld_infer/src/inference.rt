@@ -1,20 +1,18 @@
 //! The type of a term, by the form of the term.
-ghost use Rattle.std.specs.Prelude.{◌≡◌, ◌<◌, ◌≤◌, ◌+◌, ◌-◌, ◌^◌, ℕ, List, false, is_some, slice_get, IfOk, IfSome};
-ghost use Rattle.ld_terms.specs.Tree.{Tree, Trees, Star, Box, Var, App, Lam, Pi, Const, ◌▸◌, count};
-ghost use Rattle.ld_terms.specs.Item.{Item, One, IsSmall};
-ghost use Rattle.ld_terms.specs.Bank.{tree_at, list_at, IsTermAt, IsListAt};
-ghost use Rattle.ld_terms.specs.Tests.{is_star};
-ghost use Rattle.ld_infer.specs.Account.{Account};
-ghost use Rattle.ld_infer.specs.Task.{gives};
-ghost use Rattle.ld_infer.specs.Reading.{Types, SortOf, part_reading, within as part, variable_reading, product_reading, abstraction_reading, body_reading, application_reading, function_reading, argument_reading, instance_reading, again, again_unless, type_in};
-ghost use Rattle.ld_infer.specs.Reading as reading;
+ghost use Rattle.std.specs.Prelude.{◌≡◌, ◌<◌, ◌≤◌, ◌+◌, ◌^◌, is_some, IfSome};
+ghost use Rattle.ld_terms.specs.Tree.{Tree, Trees, App, Lam, Pi, ◌▸◌, count};
+ghost use Rattle.ld_terms.specs.Bank.{tree_at, IsTermAt};
+ghost use Rattle.ld_infer.specs.Reading.{Types, SortOf, part_reading, within as part, product_reading, abstraction_reading, body_reading, application_reading, function_reading, argument_reading, again, again_unless};
 ghost use Rattle.ld_infer.specs.Standing.{env, Continues, KnowsSort};
-ghost use Rattle.ld_infer.specs.Infers.{Infers, InfersSort, TypesAgain, InfersBody, InfersFunction, Suits, IsReadable, IsInstanceStep, IsRefusedBy, IsToldAs, IsWithin, reason_of};
+ghost use Rattle.ld_infer.specs.Infers.{Infers, InfersSort, TypesAgain, InfersBody, InfersFunction, Suits, IsReadable};
 ghost use Rattle.ld_infer.specs.declared.failure.RuleName.TheVariants as rule;
 ghost use Rattle.ld_infer.specs.declared.failure.PathStep.TheVariants.{Dom};
 
-use crate::failure::{Failure, InferFault, Path, PathStep, RuleName, Why};
+use crate::failure::{InferFault, PathStep, RuleName, Why};
+use crate::instance::instance;
 use crate::job::{Job, Stop};
+use crate::leaf::{sort_of_sort, star, variable};
+use crate::refusal::{box_body, refusal, refused_again, within};
 use crate::theory::Theory;
 use ld_record::{JudgeId, Step};
 use ld_terms::{Node, TermId};
@@ -51,8 +49,7 @@ struct FunctionTyped {
 /// The type of a term in the theory's context, by the rules for its form. `asked` is the rule and the number of the
 /// premise for which the type is wanted: they are reported where the term is `box`. `nest` is the nesting of this reading,
 /// 1 for a whole term; readings nested deeper than 1,000 are stopped. A fault is a premise of a rule that fails, a stop, or
-/// that a form isn't built: a function whose type is no product as it stands, an argument of another type, an instance
-/// with arguments.
+/// that a form isn't built: a function whose type is no product as it stands, or an argument of another type.
 #[cycle(infer)]
 pub fn infer(
     alloc: Global,
@@ -79,7 +76,7 @@ pub fn infer(
         Node::Pi(a, b) => product(alloc, theory, t, a, b, nest, job),
         Node::Lam(a, m) => abstraction(alloc, theory, t, a, m, nest, job),
         Node::App(f, u) => application(alloc, theory, t, f, u, nest, job),
-        Node::Const(k, us) => instance(theory, t, k, us),
+        Node::Const(k, us) => instance(alloc, theory, t, k, us, nest, job),
         Node::Nil | Node::Cons(..) => unreachable!(),
     }
 }
@@ -131,22 +128,6 @@ fn type_again(
     match sort_of(alloc, theory, asked, t, nest + 1, job) {
         Ok(sort) => Ok(sort),
         Err(fault) => Err(refused_again(alloc, theory, asked, fault)),
-    }
-}
-
-// The fault of a type that is typed again: a refusal is told of the type itself.
-fn refused_again(
-    alloc: Global,
-    theory: &Theory,
-    asked: (RuleName, u32),
-    fault: InferFault,
-) -> InferFault
-    requires { count theory.now.context < 2 ^ 32 }
-    ensures { (items : List Item) → IsToldAs items (reading.refusal asked (count theory.now.context) reading.Again) fault result }
-{
-    match fault {
-        InferFault::Refused(_) => refusal(alloc, theory, asked, Why::Again),
-        other => other,
     }
 }
 
@@ -209,20 +190,6 @@ fn domain_sort(
     match sort_of(alloc, theory, (rule, 1), a, nest + 1, job) {
         Ok(domain) => Ok(domain),
         Err(fault) => Err(within(PathStep::Dom, fault)),
-    }
-}
-
-// The judgement for the sort of a sort: `*` has one, `box` has none.
-fn sort_of_sort(theory: &mut Theory, sort: TermId) -> Result<Option<JudgeId>, InferFault>
-    requires term { IsTermAt theory.old.items sort }
-    ensures there { IfOk result (λ o. is_some o ≡ is_star (tree_at theory.old.items sort)) }
-    ensures sorted { IfOk result (λ o. IfSome o (λ j. KnowsSort theory.new j (tree_at theory.old.items sort))) }
-    ensures memory { (fault : InferFault) → result ≡ Err fault → fault ≡ InferFault.Stop Stop.Memory }
-    ensures continues { Continues theory.old theory.new }
-{
-    match theory.bank().node(sort) {
-        Node::Star => Ok(Some(theory.star_judgement()?)),
-        _ => Ok(None),
     }
 }
 
@@ -321,21 +288,6 @@ fn sort_of_type(
     }
 }
 
-// The refusal of an abstraction whose body has the type box. The theory is in the context of the body.
-fn box_body(alloc: Global, theory: &Theory) -> InferFault
-    requires inner { 0 < count theory.now.context }
-    requires room { count theory.now.context < 2 ^ 32 }
-    ensures { (items : List Item) → IsRefusedBy items (reading.refusal (rule.Abst, 2) (count theory.now.context - 1) reading.BoxBody) result }
-{
-    InferFault::Refused(Failure {
-        rule: RuleName::Abst,
-        premise: 2,
-        path: Path::new(alloc),
-        depth: theory.depth() - 1,
-        why: Why::BoxBody,
-    })
-}
-
 // The type of an application is the range of its function's type, with the argument put in.
 #[cycle(infer)]
 fn application(
@@ -358,7 +310,8 @@ fn application(
     ensures most { job.new.left ≤ job.old.left }
 {
     let function = function_type(alloc, theory, f, nest, job)?;
-    let argument = argument_judgement(alloc, theory, u, function.domain, nest, job)?;
+    let asked = (RuleName::Appl, 2);
+    let argument = argument_judgement(alloc, theory, PathStep::Arg, asked, function.domain, u, nest, job)?;
     let of = theory.instantiate(function.range, &[u])?;
     let judge = theory.conclude(t, of, Step::Appl(function.judge, argument))?;
     Ok(Typed {
@@ -399,13 +352,16 @@ fn function_type(
     }
 }
 
-// The judgement of an argument and the type that is wanted of it.
+// The judgement of an argument and the type that is wanted of it. The argument stands at the step, and is read for the rule
+// and the premise that are named.
 #[cycle(infer)]
-fn argument_judgement(
+pub(crate) fn argument_judgement(
     alloc: Global,
     theory: &mut Theory,
-    u: TermId,
+    step: PathStep,
+    asked: (RuleName, u32),
     wanted: TermId,
+    u: TermId,
     nest: u32,
     job: &mut Job,
 ) -> Result<JudgeId, InferFault>
@@ -414,117 +370,18 @@ fn argument_judgement(
     requires nest { nest ≤ 1000 }
     requires room { count theory.old.context + 1000 < 2 ^ 32 + nest }
     ensures answer { Suits theory.old theory.new
-        (argument_reading (env theory.old) (part_reading nest (env theory.old)) theory.old.context (tree_at theory.old.items u) (tree_at theory.old.items wanted)) u wanted job.old job.new result }
+        (argument_reading (env theory.old) (count theory.old.context) (part_reading nest (env theory.old) theory.old.context) step asked (tree_at theory.old.items wanted) (tree_at theory.old.items u))
+        (tree_at theory.old.items u) (tree_at theory.old.items wanted) job.old job.new result }
     ensures continues { Continues theory.old theory.new }
     ensures most { job.new.left ≤ job.old.left }
 {
-    let typed = match infer(alloc, theory, (RuleName::Appl, 2), u, nest + 1, job) {
+    let typed = match infer(alloc, theory, asked, u, nest + 1, job) {
         Ok(typed) => typed,
-        Err(fault) => return Err(within(PathStep::Arg, fault)),
+        Err(fault) => return Err(within(step, fault)),
     };
     if theory.bank().same(typed.of, wanted) {
         Ok(typed.judge)
     } else {
         Err(InferFault::NotBuilt)
-    }
-}
-
-// The sort `*` has the type `box`.
-fn star(theory: &mut Theory, t: TermId) -> Result<Typed, InferFault>
-    requires term { IsTermAt theory.old.items t }
-    requires is { tree_at theory.old.items t ≡ Star }
-    ensures answer { (work : Account) → Infers theory.old theory.new (gives (reading.found Box false)) t work work result }
-    ensures continues { Continues theory.old theory.new }
-{
-    let judge = theory.star_judgement()?;
-    Ok(Typed {
-        of: theory.box_term(),
-        judge,
-        of_judge: None,
-    })
-}
-
-fn variable(theory: &mut Theory, t: TermId, i: u32) -> Result<Typed, InferFault>
-    requires term { IsReadable theory.old t }
-    requires is { tree_at theory.old.items t ≡ Var i }
-    ensures answer { (work : Account) → Infers theory.old theory.new (variable_reading (type_in theory.old.context i)) t work work result }
-    ensures continues { Continues theory.old theory.new }
-{
-    keeps_small(theory, t);
-    let variable = theory.variable(i)?;
-    Ok(Typed {
-        of: variable.of,
-        judge: variable.judge,
-        of_judge: Some(variable.sort),
-    })
-}
-
-// The type of an instance of an entry without parameters is the entry's type.
-fn instance(theory: &mut Theory, t: TermId, k: u32, us: TermId) -> Result<Typed, InferFault>
-    requires term { IsReadable theory.old t }
-    requires list { IsListAt theory.old.items us }
-    requires is { tree_at theory.old.items t ≡ Const k (list_at theory.old.items us) }
-    ensures answer { (work : Account) (nest : ℕ) → Infers theory.old theory.new
-        (instance_reading (env theory.old) (part_reading nest (env theory.old)) theory.old.context (slice_get (env theory.old) k) (list_at theory.old.items us)) t work work result }
-    ensures continues { Continues theory.old theory.new }
-{
-    let Node::Nil = theory.bank().node(us) else {
-        return Err(InferFault::NotBuilt);
-    };
-    let entry = theory.env().entry(k);
-    let of = entry.of;
-    let body = entry.body;
-    keeps_small(theory, of);
-    let star = theory.star_judgement()?;
-    let judge = theory.conclude(t, of, instance_step(body, star))?;
-    Ok(Typed {
-        of,
-        judge,
-        of_judge: None,
-    })
-}
-
-// A term of the bank is small: for the proofs of what is told of variables and of types of entries.
-fn keeps_small(theory: &Theory, t: TermId)
-    requires { IsTermAt theory.now.items t }
-    ensures { IsSmall (One (tree_at theory.now.items t)) }
-{
-    let _node = theory.bank().node(t);
-}
-
-// The rule for an instance of an entry with that body, or of a primitive where there is none.
-fn instance_step(body: Option<TermId>, star: JudgeId) -> Step
-    ensures { IsInstanceStep body star result }
-{
-    match body {
-        Some(_) => Step::Inst(star),
-        None => Step::InstPrim(star),
-    }
-}
-
-// A refusal of the term itself.
-fn refusal(alloc: Global, theory: &Theory, asked: (RuleName, u32), why: Why) -> InferFault
-    requires { count theory.now.context < 2 ^ 32 }
-    ensures { (items : List Item) → IsRefusedBy items (reading.refusal asked (count theory.now.context) (reason_of items why)) result }
-{
-    InferFault::Refused(Failure {
-        rule: asked.0,
-        premise: asked.1,
-        path: Path::new(alloc),
-        depth: theory.depth(),
-        why,
-    })
-}
-
-/// The fault of a part that stands at a step: the step goes in front of a refusal's path.
-pub fn within(step: PathStep, fault: InferFault) -> InferFault
-    ensures { IsWithin step fault result }
-{
-    match fault {
-        InferFault::Refused(mut failure) => match failure.path.within(step) {
-            Ok(()) => InferFault::Refused(failure),
-            Err(_) => InferFault::Stop(Stop::Memory),
-        },
-        other => other,
     }
 }

@@ -4,12 +4,16 @@
 
 mod failure;
 mod inference;
+mod instance;
 mod job;
+mod leaf;
+mod refusal;
 #[cfg(test)]
 mod tests;
 mod theory;
 
 pub use failure::{Failure, InferFault, Path, PathStep, RuleName, Why};
-pub use inference::{Typed, infer, sort_of, within};
+pub use inference::{Typed, infer, sort_of};
 pub use job::{Job, Stop};
+pub use refusal::within;
 pub use theory::{Theory, VariableTyped};

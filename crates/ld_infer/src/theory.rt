@@ -1,7 +1,7 @@
 //! A theory: an environment with its derivation, and a context.
 ghost use Rattle.std.specs.Prelude.{◌≡◌, ◌≢◌, ◌<◌, ◌≤◌, ◌+◌, ◌-◌, ◌^◌, [], length, Some, IfOk, OnOk, OnErr};
 ghost use Rattle.ld_terms.specs.Tree.{Tree, Star, Box, Var, Nil, count};
-ghost use Rattle.ld_terms.specs.Bank.{tree_at, item_of, HasParts, IsTermAt, StandsFor, Holds};
+ghost use Rattle.ld_terms.specs.Bank.{tree_at, list_at, item_of, HasParts, IsTermAt, IsListAt, StandsFor, Holds};
 ghost use Rattle.ld_terms.specs.Known.{nothing, judgement_at, line_entry, primitive_entry, IsFree};
 ghost use Rattle.ld_terms.specs.Named.{IsWellFormed};
 ghost use Rattle.ld_env.specs.Entries.{entry_of, env_of, IsLiveEntry, AreLive};
@@ -165,6 +165,18 @@ impl Theory {
         ensures continues { Continues self.old self.new }
     {
         self.bank.instantiate(body, args)
+    }
+
+    /// The same with the arguments as a list of the bank.
+    pub fn instantiate_list(&mut self, body: TermId, list: TermId) -> Result<TermId, TermFault>
+        requires body { IsTermAt self.old.items body }
+        requires list { IsListAt self.old.items list }
+        ensures tree { IfOk result (λ t. StandsFor self.new.items t (put (tree_at self.old.items body) (list_at self.old.items list))) }
+        ensures small { IfOk result (λ t. IsSmall (item_at self.new.items t)) }
+        ensures high { result ≡ Err TermFault.High → ¬ IsSmall (One (put (tree_at self.old.items body) (list_at self.old.items list))) }
+        ensures continues { Continues self.old self.new }
+    {
+        self.bank.instantiate_list(body, list)
     }
 
     /// How many variables the context has.

@@ -1,7 +1,7 @@
 use Rattle.ld_terms.specs.declared.bank.Node.TheVariants as node
 use Rattle.ld_infer.proofs.Nodes.{node_tree}
 use Rattle.ld_infer.proofs.Instances.{star_sorted}
-use Rattle.ld_infer.proofs.inference.sort_of_sort.Goals as goal
+use Rattle.ld_infer.proofs.leaf.sort_of_sort.Goals as goal
 
 pub returns-in_ok-star_judgement-in-Star-clause-sorted : goal.returns-in_ok-star_judgement-in-Star-clause-sorted
 returns-in_ok-star_judgement-in-Star-clause-sorted c =

@@ -24,68 +24,68 @@ use Rattle.ld_infer.proofs.Binding.{product_stops_domain, abstraction_stops_doma
 use Rattle.ld_infer.proofs.Applying.{application_stops_function}
 use Rattle.ld_infer.proofs.Inferring.{function_typed, argument_typed, application_refused, application_high, application_typed, sort_come, held_term, held_small, body_typed, body_refused, type_well_formed}
 use Rattle.ld_infer.proofs.Around.{IsAround, around, range_refused, product_typed, body_stopped, abstraction_high, abstraction_typed, abstraction_follows, outer_tree, inner_context, sort_outside}
-use Rattle.ld_infer.proofs.inference.+infer.Goals as goal
+use Rattle.ld_infer.proofs.+infer.Goals as goal
 
 -- The reading of a term, by its form.
-pub infer-returns-in-Star-clause-answer : goal.infer-returns-in-Star-clause-answer
-infer-returns-in-Star-clause-answer t c =
+pub inference::infer-returns-in-Star-clause-answer : goal.inference::infer-returns-in-Star-clause-answer
+inference::infer-returns-in-Star-clause-answer t c =
     let a = c.args.theory.now in
     reads (env a) a.context c.args.nest c.args.asked (tree_at a.items c.args.t) Star (λ p. Infers a c.star.new.theory p c.args.t c.args.job.now c.args.job.now c.star.result) (omega arith)
     (node_tree c.bank.result.now a.items node.Star c.args.t c.bank.ensures c.in-Star.ensures.tree) (c.star.ensures.answer c.args.job.now)
 
-pub infer-returns-in-Box_-clause-answer : goal.infer-returns-in-Box_-clause-answer
-infer-returns-in-Box_-clause-answer t c =
+pub inference::infer-returns-in-Box_-clause-answer : goal.inference::infer-returns-in-Box_-clause-answer
+inference::infer-returns-in-Box_-clause-answer t c =
     let a = c.args.theory.now in
     let w = c.args.job.now in
     reads (env a) a.context c.args.nest c.args.asked (tree_at a.items c.args.t) Box (λ p. Stops a.items p c.refusal.result w w) (omega arith)
     (node_tree c.bank.result.now a.items node.Box_ c.args.t c.bank.ensures c.in-Box_.ensures.tree)
     (refused_by a.items (refused (count a.context) c.args.asked NoType) (refusal c.args.asked (count a.context) NoType) c.refusal.result w w (c.refusal.ensures a.items) (fails_now _ w))
 
-pub infer-returns-in-Var-clause-answer : goal.infer-returns-in-Var-clause-answer
-infer-returns-in-Var-clause-answer t c =
+pub inference::infer-returns-in-Var-clause-answer : goal.inference::infer-returns-in-Var-clause-answer
+inference::infer-returns-in-Var-clause-answer t c =
     let a = c.args.theory.now in
     reads (env a) a.context c.args.nest c.args.asked (tree_at a.items c.args.t) (Var c.in-Var.i) (λ p. Infers a c.variable.new.theory p c.args.t c.args.job.now c.args.job.now c.variable.result) (omega arith)
     (node_tree c.bank.result.now a.items (node.Var c.in-Var.i) c.args.t c.bank.ensures c.in-Var.ensures.tree) (c.variable.ensures.answer c.args.job.now)
 
-pub infer-returns-in-Pi-clause-answer : goal.infer-returns-in-Pi-clause-answer
-infer-returns-in-Pi-clause-answer t c =
+pub inference::infer-returns-in-Pi-clause-answer : goal.inference::infer-returns-in-Pi-clause-answer
+inference::infer-returns-in-Pi-clause-answer t c =
     let a = c.args.theory.now in
     reads (env a) a.context c.args.nest c.args.asked (tree_at a.items c.args.t) (Pi (tree_at a.items c.in-Pi.a) (tree_at a.items c.in-Pi.b))
     (λ p. Infers a c.product.new.theory p c.args.t c.args.job.now c.product.new.job c.product.result) (omega arith)
     (node_tree c.bank.result.now a.items (node.Pi c.in-Pi.a c.in-Pi.b) c.args.t c.bank.ensures c.in-Pi.ensures.tree) c.product.ensures.answer
 
-pub infer-returns-in-Lam-clause-answer : goal.infer-returns-in-Lam-clause-answer
-infer-returns-in-Lam-clause-answer t c =
+pub inference::infer-returns-in-Lam-clause-answer : goal.inference::infer-returns-in-Lam-clause-answer
+inference::infer-returns-in-Lam-clause-answer t c =
     let a = c.args.theory.now in
     reads (env a) a.context c.args.nest c.args.asked (tree_at a.items c.args.t) (Lam (tree_at a.items c.in-Lam.a) (tree_at a.items c.in-Lam.m))
     (λ p. Infers a c.abstraction.new.theory p c.args.t c.args.job.now c.abstraction.new.job c.abstraction.result) (omega arith)
     (node_tree c.bank.result.now a.items (node.Lam c.in-Lam.a c.in-Lam.m) c.args.t c.bank.ensures c.in-Lam.ensures.tree) c.abstraction.ensures.answer
 
-pub infer-returns-in-App-clause-answer : goal.infer-returns-in-App-clause-answer
-infer-returns-in-App-clause-answer t c =
+pub inference::infer-returns-in-App-clause-answer : goal.inference::infer-returns-in-App-clause-answer
+inference::infer-returns-in-App-clause-answer t c =
     let a = c.args.theory.now in
     reads (env a) a.context c.args.nest c.args.asked (tree_at a.items c.args.t) (App (tree_at a.items c.in-App.f) (tree_at a.items c.in-App.u))
     (λ p. Infers a c.application.new.theory p c.args.t c.args.job.now c.application.new.job c.application.result) (omega arith)
     (node_tree c.bank.result.now a.items (node.App c.in-App.f c.in-App.u) c.args.t c.bank.ensures c.in-App.ensures.tree) c.application.ensures.answer
 
-pub infer-returns-in-Const-clause-answer : goal.infer-returns-in-Const-clause-answer
-infer-returns-in-Const-clause-answer t c =
+pub inference::infer-returns-in-Const-clause-answer : goal.inference::infer-returns-in-Const-clause-answer
+inference::infer-returns-in-Const-clause-answer t c =
     let a = c.args.theory.now in
     reads (env a) a.context c.args.nest c.args.asked (tree_at a.items c.args.t) (Const c.in-Const.k (list_at a.items c.in-Const.us))
-    (λ p. Infers a c.instance.new.theory p c.args.t c.args.job.now c.args.job.now c.instance.result) (omega arith)
-    (node_tree c.bank.result.now a.items (node.Const c.in-Const.k c.in-Const.us) c.args.t c.bank.ensures c.in-Const.ensures.tree) (c.instance.ensures.answer c.args.job.now c.args.nest)
+    (λ p. Infers a c.instance.new.theory p c.args.t c.args.job.now c.instance.new.job c.instance.result) (omega arith)
+    (node_tree c.bank.result.now a.items (node.Const c.in-Const.k c.in-Const.us) c.args.t c.bank.ensures c.in-Const.ensures.tree) c.instance.ensures.answer
 
 -- The sort of a term.
-pub sort_of-returns-in_err-typed-clause-answer : goal.sort_of-returns-in_err-typed-clause-answer
-sort_of-returns-in_err-typed-clause-answer t c =
+pub inference::sort_of-returns-in_err-typed-clause-answer : goal.inference::sort_of-returns-in_err-typed-clause-answer
+inference::sort_of-returns-in_err-typed-clause-answer t c =
     let a = c.args.theory.now in
     let b = c.infer.new.theory in
     let p = err_from_is_err_and c.from_residual.result c.from_residual.ensures.1 in
     at_fault (λ r. InfersSort a b (SortOf (env a) a.context c.args.nest c.args.asked (tree_at a.items c.args.t)) c.args.t c.args.job.now c.infer.new.job r) c.from_residual.result c.in_err-typed.field-0.0 p.0 p.1 p.2
     (sort_stops (env a) (count a.context) (read_within (1001 - c.args.nest) (env a) a.context) c.args.asked b.items (tree_at a.items c.args.t) c.in_err-typed.field-0.0 c.args.job.now c.infer.new.job c.in_err-typed.ensures.answer)
 
-pub sort_of-returns-in-Star-clause-answer : goal.sort_of-returns-in-Star-clause-answer
-sort_of-returns-in-Star-clause-answer t c =
+pub inference::sort_of-returns-in-Star-clause-answer : goal.inference::sort_of-returns-in-Star-clause-answer
+inference::sort_of-returns-in-Star-clause-answer t c =
     let a = c.args.theory.now in
     let b = c.infer.new.theory in
     let x = c.in_ok-typed.typed in
@@ -97,8 +97,8 @@ sort_of-returns-in-Star-clause-answer t c =
           c.args.job.now c.infer.new.job h.gives (sort_tested (tree_at b.items x.of) sort);
     }
 
-pub sort_of-returns-in_default : goal.sort_of-returns-in_default
-sort_of-returns-in_default t c =
+pub inference::sort_of-returns-in_default : goal.inference::sort_of-returns-in_default
+inference::sort_of-returns-in_default t c =
     let a = c.args.theory.now in
     let b = c.infer.new.theory in
     let x = c.in_ok-typed.typed in
@@ -111,15 +111,15 @@ sort_of-returns-in_default t c =
       most = c.infer.ensures.most;
     }
 
-pub domain_sort-returns-in-Ok-clause-answer : goal.domain_sort-returns-in-Ok-clause-answer
-domain_sort-returns-in-Ok-clause-answer t c = let h = c.in-Ok.ensures.answer in record { has = h.has; gives = gives_within Dom _ _ _ _ h.gives }
+pub inference::domain_sort-returns-in-Ok-clause-answer : goal.inference::domain_sort-returns-in-Ok-clause-answer
+inference::domain_sort-returns-in-Ok-clause-answer t c = let h = c.in-Ok.ensures.answer in record { has = h.has; gives = gives_within Dom _ _ _ _ h.gives }
 
-pub domain_sort-returns-in-Err-clause-answer : goal.domain_sort-returns-in-Err-clause-answer
-domain_sort-returns-in-Err-clause-answer t c = stops_within c.sort_of.new.theory.items Dom _ c.in-Err.fault c.within.result _ _ c.in-Err.ensures.answer c.within.ensures
+pub inference::domain_sort-returns-in-Err-clause-answer : goal.inference::domain_sort-returns-in-Err-clause-answer
+inference::domain_sort-returns-in-Err-clause-answer t c = stops_within c.sort_of.new.theory.items Dom _ c.in-Err.fault c.within.result _ _ c.in-Err.ensures.answer c.within.ensures
 
 -- Typing again.
-pub type_again-returns-in-Ok-clause-answer : goal.type_again-returns-in-Ok-clause-answer
-type_again-returns-in-Ok-clause-answer t c =
+pub inference::type_again-returns-in-Ok-clause-answer : goal.inference::type_again-returns-in-Ok-clause-answer
+inference::type_again-returns-in-Ok-clause-answer t c =
     let a = c.args.theory.now in
     let h = c.in-Ok.ensures.answer in
     record {
@@ -128,41 +128,41 @@ type_again-returns-in-Ok-clause-answer t c =
           c.args.job.now c.step.new.self c.sort_of.new.job c.in_ok-step.ensures.ok c.in_ok-step.ensures.known h.gives;
     }
 
-pub type_again-returns-in-Err-clause-answer : goal.type_again-returns-in-Err-clause-answer
-type_again-returns-in-Err-clause-answer t c =
+pub inference::type_again-returns-in-Err-clause-answer : goal.inference::type_again-returns-in-Err-clause-answer
+inference::type_again-returns-in-Err-clause-answer t c =
     let a = c.args.theory.now in
     let items = c.sort_of.new.theory.items in
     let P : Trees → Type 0 = λ ctx. IsToldAs items (refusal c.args.asked (count ctx) Again) c.in-Err.fault c.refused_again.result in
     again_stops (env a) (count a.context) (part_reading c.args.nest (env a) a.context) c.args.asked items (tree_at a.items c.args.t) c.in-Err.fault c.refused_again.result
     c.args.job.now c.step.new.self c.sort_of.new.job c.in_ok-step.ensures.ok c.in_ok-step.ensures.known c.in-Err.ensures.answer (subst P c.sort_of.ensures.continues.context (c.refused_again.ensures items))
 
-pub sort_of_type-returns-in-Some-clause-answer : goal.sort_of_type-returns-in-Some-clause-answer
-sort_of_type-returns-in-Some-clause-answer t c =
+pub inference::sort_of_type-returns-in-Some-clause-answer : goal.inference::sort_of_type-returns-in-Some-clause-answer
+inference::sort_of_type-returns-in-Some-clause-answer t c =
     sort_come c.args.theory.now c.args.nest c.args.typed c.in-Some.j c.type_of.result c.args.job.now c.in-Some.is c.requires.sorted c.type_of.ensures.term c.type_of.ensures.is
 
-pub sort_of_type-returns-in-None-clause-answer : goal.sort_of_type-returns-in-None-clause-answer
-sort_of_type-returns-in-None-clause-answer t c =
+pub inference::sort_of_type-returns-in-None-clause-answer : goal.inference::sort_of_type-returns-in-None-clause-answer
+inference::sort_of_type-returns-in-None-clause-answer t c =
     let a = c.args.theory.now in
     let P : Bool → Type 0 = λ o. TypesAgain a c.type_again.new.theory (again_unless (env a) (count a.context) (part_reading c.args.nest (env a) a.context) o (rule.Abst, 2) (tree_at a.items c.args.typed.of))
     c.args.typed.of c.args.job.now c.type_again.new.job c.type_again.result in
     subst P (sym (ap is_some c.in-None.is)) c.type_again.ensures.answer
 
 -- The function and the argument of an application.
-pub function_type-returns-in-Err-clause-answer : goal.function_type-returns-in-Err-clause-answer
-function_type-returns-in-Err-clause-answer t c =
+pub inference::function_type-returns-in-Err-clause-answer : goal.inference::function_type-returns-in-Err-clause-answer
+inference::function_type-returns-in-Err-clause-answer t c =
     let a = c.args.theory.now in
     function_stops (env a) (part_reading c.args.nest (env a)) a.context c.infer.new.theory.items (tree_at a.items c.args.f) c.in-Err.fault c.within.result c.args.job.now c.infer.new.job c.in-Err.ensures.answer c.within.ensures
 
-pub function_type-returns-in-Pi-clause-answer : goal.function_type-returns-in-Pi-clause-answer
-function_type-returns-in-Pi-clause-answer t c =
+pub inference::function_type-returns-in-Pi-clause-answer : goal.inference::function_type-returns-in-Pi-clause-answer
+inference::function_type-returns-in-Pi-clause-answer t c =
     let b = c.infer.new.theory in
     let P : List Item → Type 0 = λ xs. IsTermAt xs c.in-Pi.domain × IsTermAt xs c.in-Pi.range in
     let parts = subst P c.bank.ensures c.in-Pi.ensures.parts in
     function_typed c.args.theory.now b c.args.nest c.args.f c.in-Ok.typed c.in-Pi.domain c.in-Pi.range c.args.job.now c.infer.new.job c.in-Ok.ensures.answer parts.0 parts.1
     (node_tree c.bank.result.now b.items (node.Pi c.in-Pi.domain c.in-Pi.range) c.in-Ok.typed.of c.bank.ensures c.in-Pi.ensures.tree)
 
-pub function_type-returns-in_default : goal.function_type-returns-in_default
-function_type-returns-in_default t c =
+pub inference::function_type-returns-in_default : goal.inference::function_type-returns-in_default
+inference::function_type-returns-in_default t c =
     let a = c.args.theory.now in
     let b = c.infer.new.theory in
     let x = c.in-Ok.typed in
@@ -174,23 +174,23 @@ function_type-returns-in_default t c =
       most = c.infer.ensures.most;
     }
 
-pub argument_judgement-returns-in-Err-clause-answer : goal.argument_judgement-returns-in-Err-clause-answer
-argument_judgement-returns-in-Err-clause-answer t c =
+pub inference::argument_judgement-returns-in-Err-clause-answer : goal.inference::argument_judgement-returns-in-Err-clause-answer
+inference::argument_judgement-returns-in-Err-clause-answer t c =
     let a = c.args.theory.now in
-    argument_stops (env a) (part_reading c.args.nest (env a)) a.context c.infer.new.theory.items (tree_at a.items c.args.u) (tree_at a.items c.args.wanted) c.in-Err.fault c.within.result
+    argument_stops (env a) (count a.context) (part_reading c.args.nest (env a) a.context) c.infer.new.theory.items c.args.step c.args.asked (tree_at a.items c.args.wanted) (tree_at a.items c.args.u) c.in-Err.fault c.within.result
     c.args.job.now c.infer.new.job c.in-Err.ensures.answer c.within.ensures
 
-pub argument_judgement-returns-then-same-clause-answer : goal.argument_judgement-returns-then-same-clause-answer
-argument_judgement-returns-then-same-clause-answer t c =
+pub inference::argument_judgement-returns-then-same-clause-answer : goal.inference::argument_judgement-returns-then-same-clause-answer
+inference::argument_judgement-returns-then-same-clause-answer t c =
     let a = c.args.theory.now in
     let b = c.infer.new.theory in
     let P : List Item → Type 0 = λ xs. item_at xs c.in-Ok.typed.of ≡ item_at xs c.args.wanted in
     let same = subst P c.bank.ensures (c.same.ensures.0 c.if-same.true) in
-    argument_typed a b c.args.nest c.args.u c.args.wanted c.in-Ok.typed c.args.job.now c.infer.new.job c.in-Ok.ensures.answer
+    argument_typed a b c.args.nest c.args.step c.args.asked c.args.wanted c.args.u c.in-Ok.typed c.args.job.now c.infer.new.job c.in-Ok.ensures.answer
     (ap tree same ∙ tree_stays a b c.args.wanted c.infer.ensures.continues c.requires.wanted)
 
-pub argument_judgement-returns-else-same-clause-answer : goal.argument_judgement-returns-else-same-clause-answer
-argument_judgement-returns-else-same-clause-answer t c =
+pub inference::argument_judgement-returns-else-same-clause-answer : goal.inference::argument_judgement-returns-else-same-clause-answer
+inference::argument_judgement-returns-else-same-clause-answer t c =
     let a = c.args.theory.now in
     let b = c.infer.new.theory in
     let x = c.in-Ok.typed in
@@ -198,12 +198,12 @@ argument_judgement-returns-else-same-clause-answer t c =
     let P : List Item → Type 0 = λ xs. item_at xs x.of ≡ item_at xs c.args.wanted in
     let wanted = term_stays a b c.args.wanted c.infer.ensures.continues c.requires.wanted in
     let wanted_tree = tree_stays a b c.args.wanted c.infer.ensures.continues c.requires.wanted in
-    argument_not_built (env a) (part_reading c.args.nest (env a)) a.context (tree_at a.items c.args.u) (tree_at b.items x.of) (tree_at a.items c.args.wanted) (is_some x.of_judge) c.args.job.now c.infer.new.job h.gives
+    argument_not_built (env a) (count a.context) (part_reading c.args.nest (env a) a.context) c.args.step c.args.asked (tree_at a.items c.args.wanted) (tree_at a.items c.args.u) (tree_at b.items x.of) (is_some x.of_judge) c.args.job.now c.infer.new.job h.gives
     (λ e. false≢true (c.if-same.ensures.1 (subst P (sym c.bank.ensures) (same_items (item_at b.items x.of) (item_at b.items c.args.wanted) h.term.form wanted.form (e ∙ sym wanted_tree)))))
 
 -- Applications.
-pub application-returns-in_err-function-clause-answer : goal.application-returns-in_err-function-clause-answer
-application-returns-in_err-function-clause-answer t c =
+pub inference::application-returns-in_err-function-clause-answer : goal.inference::application-returns-in_err-function-clause-answer
+inference::application-returns-in_err-function-clause-answer t c =
     let a = c.args.theory.now in
     let b = c.function_type.new.theory in
     let f = tree_at a.items c.args.f in
@@ -213,8 +213,8 @@ application-returns-in_err-function-clause-answer t c =
     c.from_residual.result c.in_err-function.field-0.0 p.0 p.1 p.2
     (application_stops_function (env a) (part_reading c.args.nest (env a)) a.context b.items f u c.in_err-function.field-0.0 c.args.job.now c.function_type.new.job c.in_err-function.ensures.answer)
 
-pub application-returns-in_err-argument-clause-answer : goal.application-returns-in_err-argument-clause-answer
-application-returns-in_err-argument-clause-answer t c =
+pub inference::application-returns-in_err-argument-clause-answer : goal.inference::application-returns-in_err-argument-clause-answer
+inference::application-returns-in_err-argument-clause-answer t c =
     let a = c.args.theory.now in
     let b = c.argument_judgement.new.theory in
     let p = err_from_is_err_and c.from_residual-in_err-argument.result c.from_residual-in_err-argument.ensures.1 in
@@ -223,12 +223,12 @@ application-returns-in_err-argument-clause-answer t c =
     (application_refused a c.function_type.new.theory b c.args.nest c.args.f c.args.u c.in_ok-function.function c.in_err-argument.field-0.0 c.args.job.now c.function_type.new.job c.argument_judgement.new.job
     c.function_type.ensures.continues c.requires.parts.1 c.in_ok-function.ensures.answer c.in_err-argument.ensures.answer)
 
-pub application-returns-in_err-argument-clause-continues : goal.application-returns-in_err-argument-clause-continues
-application-returns-in_err-argument-clause-continues t c =
+pub inference::application-returns-in_err-argument-clause-continues : goal.inference::application-returns-in_err-argument-clause-continues
+inference::application-returns-in_err-argument-clause-continues t c =
     continues_trans c.args.theory.now c.function_type.new.theory c.argument_judgement.new.theory c.function_type.ensures.continues c.argument_judgement.ensures.continues
 
-pub application-returns-in_err-of-clause-answer : goal.application-returns-in_err-of-clause-answer
-application-returns-in_err-of-clause-answer t c =
+pub inference::application-returns-in_err-of-clause-answer : goal.inference::application-returns-in_err-of-clause-answer
+inference::application-returns-in_err-of-clause-answer t c =
     let a = c.args.theory.now in
     let d = c.instantiate.new.self in
     let p = err_from_is_err_and c.from_residual-in_err-of.result c.from_residual-in_err-of.ensures.1 in
@@ -239,20 +239,20 @@ application-returns-in_err-of-clause-answer t c =
     c.function_type.ensures.continues c.argument_judgement.ensures.continues c.requires.parts.1 c.in_ok-function.ensures.answer c.in_ok-argument.ensures.answer
     (λ e. c.in_err-of.ensures.high (ap Err e)) p.2)
 
-pub application-returns-in_err-of-clause-continues : goal.application-returns-in_err-of-clause-continues
-application-returns-in_err-of-clause-continues t c =
+pub inference::application-returns-in_err-of-clause-continues : goal.inference::application-returns-in_err-of-clause-continues
+inference::application-returns-in_err-of-clause-continues t c =
     continues_trans c.args.theory.now c.argument_judgement.new.theory c.instantiate.new.self
     (continues_trans c.args.theory.now c.function_type.new.theory c.argument_judgement.new.theory c.function_type.ensures.continues c.argument_judgement.ensures.continues) c.instantiate.ensures.continues
 
-pub application-returns-in_err-judge-clause-continues : goal.application-returns-in_err-judge-clause-continues
-application-returns-in_err-judge-clause-continues t c =
+pub inference::application-returns-in_err-judge-clause-continues : goal.inference::application-returns-in_err-judge-clause-continues
+inference::application-returns-in_err-judge-clause-continues t c =
     let a = c.args.theory.now in
     continues_trans a c.instantiate.new.self c.conclude.new.self
     (continues_trans a c.argument_judgement.new.theory c.instantiate.new.self (continues_trans a c.function_type.new.theory c.argument_judgement.new.theory c.function_type.ensures.continues c.argument_judgement.ensures.continues) c.instantiate.ensures.continues)
     c.conclude.ensures.continues
 
-pub application-returns-clause-answer : goal.application-returns-clause-answer
-application-returns-clause-answer t c =
+pub inference::application-returns-clause-answer : goal.inference::application-returns-clause-answer
+inference::application-returns-clause-answer t c =
     let d = c.instantiate.new.self in
     let of = c.in_ok-of.of in
     let made = c.in_ok-of.ensures.tree in
@@ -260,23 +260,23 @@ application-returns-clause-answer t c =
     c.in_ok-judge.judge c.args.job.now c.function_type.new.job c.argument_judgement.new.job c.function_type.ensures.continues c.argument_judgement.ensures.continues c.instantiate.ensures.continues c.conclude.ensures.continues
     c.requires.term.0 c.requires.parts.1 c.in_ok-function.ensures.answer c.in_ok-argument.ensures.answer (held_term d.items of _ made) (ap tree made.item) (held_small d.items of _ made c.in_ok-of.ensures.small) c.in_ok-judge.ensures.number
 
-pub application-returns-clause-continues : goal.application-returns-clause-continues
-application-returns-clause-continues t c =
+pub inference::application-returns-clause-continues : goal.inference::application-returns-clause-continues
+inference::application-returns-clause-continues t c =
     let a = c.args.theory.now in
     continues_trans a c.instantiate.new.self c.conclude.new.self
     (continues_trans a c.argument_judgement.new.theory c.instantiate.new.self (continues_trans a c.function_type.new.theory c.argument_judgement.new.theory c.function_type.ensures.continues c.argument_judgement.ensures.continues) c.instantiate.ensures.continues)
     c.conclude.ensures.continues
 
 -- Bodies of abstractions.
-pub body_type-returns-in-Err-clause-answer : goal.body_type-returns-in-Err-clause-answer
-body_type-returns-in-Err-clause-answer t c ctx y inner =
+pub inference::body_type-returns-in-Err-clause-answer : goal.inference::body_type-returns-in-Err-clause-answer
+inference::body_type-returns-in-Err-clause-answer t c ctx y inner =
     let a = c.args.theory.now in
     let items = c.infer.new.theory.items in
     let P : Trees → Type 0 = λ Γ. Stops items (Types (env a) Γ (c.args.nest + 1) (rule.Abst, 1) (tree_at a.items c.args.m)) c.in-Err.fault c.args.job.now c.infer.new.job in
     body_stops (env a) (part_reading c.args.nest (env a)) ctx items y (tree_at a.items c.args.m) c.in-Err.fault c.within.result c.args.job.now c.infer.new.job (subst P inner c.in-Err.ensures.answer) c.within.ensures
 
-pub body_type-returns-in-Box_-clause-answer : goal.body_type-returns-in-Box_-clause-answer
-body_type-returns-in-Box_-clause-answer t c ctx y inner =
+pub inference::body_type-returns-in-Box_-clause-answer : goal.inference::body_type-returns-in-Box_-clause-answer
+inference::body_type-returns-in-Box_-clause-answer t c ctx y inner =
     let a = c.args.theory.now in
     let b = c.infer.new.theory in
     let x = c.in-Ok.typed in
@@ -286,8 +286,8 @@ body_type-returns-in-Box_-clause-answer t c ctx y inner =
     body_box (env a) (part_reading c.args.nest (env a)) ctx b.items y (tree_at a.items c.args.m) (tree_at b.items x.of) (is_some x.of_judge) c.box_body.result c.args.job.now c.infer.new.job (subst P inner h.gives)
     (node_tree c.bank.result.now b.items node.Box_ x.of c.bank.ensures c.in-Box_.ensures.tree) (subst Q (omega (arith, ap count (c.infer.ensures.continues.context ∙ inner))) (c.box_body.ensures b.items))
 
-pub body_type-sort_of_type-requires : goal.body_type-sort_of_type-requires
-body_type-sort_of_type-requires t c =
+pub inference::body_type-sort_of_type-requires : goal.inference::body_type-sort_of_type-requires
+inference::body_type-sort_of_type-requires t c =
     let a = c.args.theory.now in
     let b = c.infer.new.theory in
     let x = c.in-Ok.typed in
@@ -295,8 +295,8 @@ body_type-sort_of_type-requires t c =
     let formed = type_well_formed a b x.judge (tree_at a.items c.args.m) (tree_at b.items x.of) c.infer.ensures.continues c.keeps_well_formed.ensures h.judged in
     (search rules, ((h.term, formed), (h.sorted, (c.requires.nest, omega (arith, c.requires.room, ap count c.infer.ensures.continues.context)))))
 
-pub body_type-returns-in_err-sort : goal.body_type-returns-in_err-sort
-body_type-returns-in_err-sort t c =
+pub inference::body_type-returns-in_err-sort : goal.inference::body_type-returns-in_err-sort
+inference::body_type-returns-in_err-sort t c =
     let a = c.args.theory.now in
     let b = c.infer.new.theory in
     let z = c.sort_of_type.new.theory in
@@ -313,8 +313,8 @@ body_type-returns-in_err-sort t c =
       most = omega (arith, c.infer.ensures.most, c.sort_of_type.ensures.most);
     }
 
-pub body_type-returns : goal.body_type-returns
-body_type-returns t c =
+pub inference::body_type-returns : goal.inference::body_type-returns
+inference::body_type-returns t c =
     let a = c.args.theory.now in
     let b = c.infer.new.theory in
     let z = c.sort_of_type.new.theory in
@@ -329,8 +329,8 @@ body_type-returns t c =
     }
 
 -- Products.
-pub product-returns-in_err-domain-clause-answer : goal.product-returns-in_err-domain-clause-answer
-product-returns-in_err-domain-clause-answer t c =
+pub inference::product-returns-in_err-domain-clause-answer : goal.inference::product-returns-in_err-domain-clause-answer
+inference::product-returns-in_err-domain-clause-answer t c =
     let a = c.args.theory.now in
     let b = c.domain_sort.new.theory in
     let x = tree_at a.items c.args.a in
@@ -339,11 +339,11 @@ product-returns-in_err-domain-clause-answer t c =
     at_fault (λ r. Infers a b (product_reading (env a) (part_reading c.args.nest (env a)) a.context x y) c.args.t c.args.job.now c.domain_sort.new.job r) c.from_residual.result c.in_err-domain.field-0.0 p.0 p.1 p.2
     (product_stops_domain (env a) (part_reading c.args.nest (env a)) a.context b.items x y c.in_err-domain.field-0.0 c.args.job.now c.domain_sort.new.job c.in_err-domain.ensures.answer)
 
-pub product-returns-in_err-enter-clause-continues : goal.product-returns-in_err-enter-clause-continues
-product-returns-in_err-enter-clause-continues t c = continues_trans c.args.theory.now c.domain_sort.new.theory c.enter.new.self c.domain_sort.ensures.continues c.in_err-enter.ensures.err
+pub inference::product-returns-in_err-enter-clause-continues : goal.inference::product-returns-in_err-enter-clause-continues
+inference::product-returns-in_err-enter-clause-continues t c = continues_trans c.args.theory.now c.domain_sort.new.theory c.enter.new.self c.domain_sort.ensures.continues c.in_err-enter.ensures.err
 
-pub product-returns-in-Err-clause-answer : goal.product-returns-in-Err-clause-answer
-product-returns-in-Err-clause-answer t c =
+pub inference::product-returns-in-Err-clause-answer : goal.inference::product-returns-in-Err-clause-answer
+inference::product-returns-in-Err-clause-answer t c =
     let a = c.args.theory.now in
     let b = c.domain_sort.new.theory in
     let e = c.sort_of-range.new.theory in
@@ -352,27 +352,27 @@ product-returns-in-Err-clause-answer t c =
     range_refused a b c.enter.new.self e c.leave.new.self c.args.a h c.requires.parts.0 c.args.nest c.args.b c.in_ok-domain.domain c.in-Err.fault c.within.result c.args.job.now c.domain_sort.new.job c.sort_of-range.new.job
     c.requires.parts.1 c.in_ok-domain.ensures.answer c.in-Err.ensures.answer c.within.ensures
 
-pub product-returns-in-Err-clause-continues : goal.product-returns-in-Err-clause-continues
-product-returns-in-Err-clause-continues t c =
+pub inference::product-returns-in-Err-clause-continues : goal.inference::product-returns-in-Err-clause-continues
+inference::product-returns-in-Err-clause-continues t c =
     around c.args.theory.now c.domain_sort.new.theory c.enter.new.self c.sort_of-range.new.theory c.leave.new.self c.args.a
     (record { domain = c.domain_sort.ensures.continues; enters = c.in_ok-enter.ensures.ok; inside = c.sort_of-range.ensures.continues; leaves = c.leave.ensures }) c.requires.parts.0
 
-pub product-returns-in_err-judge-clause-continues : goal.product-returns-in_err-judge-clause-continues
-product-returns-in_err-judge-clause-continues t c =
+pub inference::product-returns-in_err-judge-clause-continues : goal.inference::product-returns-in_err-judge-clause-continues
+inference::product-returns-in_err-judge-clause-continues t c =
     continues_trans c.args.theory.now c.leave.new.self c.conclude.new.self
     (around c.args.theory.now c.domain_sort.new.theory c.enter.new.self c.sort_of-range.new.theory c.leave.new.self c.args.a
     (record { domain = c.domain_sort.ensures.continues; enters = c.in_ok-enter.ensures.ok; inside = c.sort_of-range.ensures.continues; leaves = c.leave.ensures }) c.requires.parts.0) c.conclude.ensures.continues
 
-pub product-returns-in_err-of_judge-clause-continues : goal.product-returns-in_err-of_judge-clause-continues
-product-returns-in_err-of_judge-clause-continues t c =
+pub inference::product-returns-in_err-of_judge-clause-continues : goal.inference::product-returns-in_err-of_judge-clause-continues
+inference::product-returns-in_err-of_judge-clause-continues t c =
     continues_trans c.args.theory.now c.conclude.new.self c.sort_of_sort.new.theory
     (continues_trans c.args.theory.now c.leave.new.self c.conclude.new.self
     (around c.args.theory.now c.domain_sort.new.theory c.enter.new.self c.sort_of-range.new.theory c.leave.new.self c.args.a
     (record { domain = c.domain_sort.ensures.continues; enters = c.in_ok-enter.ensures.ok; inside = c.sort_of-range.ensures.continues; leaves = c.leave.ensures }) c.requires.parts.0) c.conclude.ensures.continues)
     c.sort_of_sort.ensures.continues
 
-pub product-returns-clause-answer : goal.product-returns-clause-answer
-product-returns-clause-answer t c =
+pub inference::product-returns-clause-answer : goal.inference::product-returns-clause-answer
+inference::product-returns-clause-answer t c =
     let a = c.args.theory.now in
     let b = c.domain_sort.new.theory in
     let e = c.sort_of-range.new.theory in
@@ -382,8 +382,8 @@ product-returns-clause-answer t c =
     c.in_ok-of_judge.of_judge c.args.job.now c.domain_sort.new.job c.sort_of-range.new.job c.requires.term.0 c.requires.parts.1 c.in_ok-domain.ensures.answer c.in-Ok.ensures.answer c.conclude.ensures.continues
     c.sort_of_sort.ensures.continues c.in_ok-judge.ensures.number c.in_ok-of_judge.ensures.there c.in_ok-of_judge.ensures.sorted
 
-pub product-returns-clause-continues : goal.product-returns-clause-continues
-product-returns-clause-continues t c =
+pub inference::product-returns-clause-continues : goal.inference::product-returns-clause-continues
+inference::product-returns-clause-continues t c =
     continues_trans c.args.theory.now c.conclude.new.self c.sort_of_sort.new.theory
     (continues_trans c.args.theory.now c.leave.new.self c.conclude.new.self
     (around c.args.theory.now c.domain_sort.new.theory c.enter.new.self c.sort_of-range.new.theory c.leave.new.self c.args.a
@@ -391,8 +391,8 @@ product-returns-clause-continues t c =
     c.sort_of_sort.ensures.continues
 
 -- Abstractions.
-pub abstraction-returns-in_err-domain-clause-answer : goal.abstraction-returns-in_err-domain-clause-answer
-abstraction-returns-in_err-domain-clause-answer t c =
+pub inference::abstraction-returns-in_err-domain-clause-answer : goal.inference::abstraction-returns-in_err-domain-clause-answer
+inference::abstraction-returns-in_err-domain-clause-answer t c =
     let a = c.args.theory.now in
     let b = c.domain_sort.new.theory in
     let x = tree_at a.items c.args.a in
@@ -401,11 +401,11 @@ abstraction-returns-in_err-domain-clause-answer t c =
     at_fault (λ r. Infers a b (abstraction_reading (env a) (part_reading c.args.nest (env a)) a.context x m) c.args.t c.args.job.now c.domain_sort.new.job r) c.from_residual.result c.in_err-domain.field-0.0 p.0 p.1 p.2
     (abstraction_stops_domain (env a) (part_reading c.args.nest (env a)) a.context b.items x m c.in_err-domain.field-0.0 c.args.job.now c.domain_sort.new.job c.in_err-domain.ensures.answer)
 
-pub abstraction-returns-in_err-enter-clause-continues : goal.abstraction-returns-in_err-enter-clause-continues
-abstraction-returns-in_err-enter-clause-continues t c = continues_trans c.args.theory.now c.domain_sort.new.theory c.enter.new.self c.domain_sort.ensures.continues c.in_err-enter.ensures.err
+pub inference::abstraction-returns-in_err-enter-clause-continues : goal.inference::abstraction-returns-in_err-enter-clause-continues
+inference::abstraction-returns-in_err-enter-clause-continues t c = continues_trans c.args.theory.now c.domain_sort.new.theory c.enter.new.self c.domain_sort.ensures.continues c.in_err-enter.ensures.err
 
-pub abstraction-returns-in_err-body-clause-answer : goal.abstraction-returns-in_err-body-clause-answer
-abstraction-returns-in_err-body-clause-answer t c =
+pub inference::abstraction-returns-in_err-body-clause-answer : goal.inference::abstraction-returns-in_err-body-clause-answer
+inference::abstraction-returns-in_err-body-clause-answer t c =
     let a = c.args.theory.now in
     let b = c.domain_sort.new.theory in
     let e = c.body_type-body.new.theory in
@@ -418,12 +418,12 @@ abstraction-returns-in_err-body-clause-answer t c =
     (body_stopped a b c.enter.new.self e d c.args.a h c.requires.parts.0 c.args.nest c.args.m c.in_ok-domain.domain f c.args.job.now c.domain_sort.new.job c.body_type-body.new.job c.requires.parts.1
     c.in_ok-domain.ensures.answer c.in_err-body.ensures.answer)
 
-pub abstraction-returns-in_err-body-clause-continues : goal.abstraction-returns-in_err-body-clause-continues
-abstraction-returns-in_err-body-clause-continues t c =
+pub inference::abstraction-returns-in_err-body-clause-continues : goal.inference::abstraction-returns-in_err-body-clause-continues
+inference::abstraction-returns-in_err-body-clause-continues t c =
     around c.args.theory.now c.domain_sort.new.theory c.enter.new.self c.body_type-body.new.theory c.leave.new.self c.args.a (record { domain = c.domain_sort.ensures.continues; enters = c.in_ok-enter.ensures.ok; inside = c.body_type-body.ensures.continues; leaves = c.leave.ensures }) c.requires.parts.0
 
-pub abstraction-returns-in_err-of-clause-answer : goal.abstraction-returns-in_err-of-clause-answer
-abstraction-returns-in_err-of-clause-answer t c =
+pub inference::abstraction-returns-in_err-of-clause-answer : goal.inference::abstraction-returns-in_err-of-clause-answer
+inference::abstraction-returns-in_err-of-clause-answer t c =
     let a = c.args.theory.now in
     let b = c.domain_sort.new.theory in
     let e = c.body_type-body.new.theory in
@@ -437,17 +437,17 @@ abstraction-returns-in_err-of-clause-answer t c =
     (abstraction_high a b c.enter.new.self e d c.args.a h c.requires.parts.0 c.add.new.self c.args.nest c.args.m c.in_ok-domain.domain c.in_ok-body.body f p.0 c.args.job.now c.domain_sort.new.job c.body_type-body.new.job
     c.requires.parts.1 c.in_ok-domain.ensures.answer c.in_ok-body.ensures.answer (λ q. c.in_err-of.ensures.high.0 (ap Err q)) p.2)
 
-pub abstraction-returns-in_err-of-clause-continues : goal.abstraction-returns-in_err-of-clause-continues
-abstraction-returns-in_err-of-clause-continues t c =
+pub inference::abstraction-returns-in_err-of-clause-continues : goal.inference::abstraction-returns-in_err-of-clause-continues
+inference::abstraction-returns-in_err-of-clause-continues t c =
     continues_trans c.args.theory.now c.leave.new.self c.add.new.self (around c.args.theory.now c.domain_sort.new.theory c.enter.new.self c.body_type-body.new.theory c.leave.new.self c.args.a (record { domain = c.domain_sort.ensures.continues; enters = c.in_ok-enter.ensures.ok; inside = c.body_type-body.ensures.continues; leaves = c.leave.ensures }) c.requires.parts.0) c.add.ensures.continues
 
-pub abstraction-returns-in_err-formed-clause-continues : goal.abstraction-returns-in_err-formed-clause-continues
-abstraction-returns-in_err-formed-clause-continues t c =
+pub inference::abstraction-returns-in_err-formed-clause-continues : goal.inference::abstraction-returns-in_err-formed-clause-continues
+inference::abstraction-returns-in_err-formed-clause-continues t c =
     continues_trans c.args.theory.now c.add.new.self c.conclude.new.self
     (continues_trans c.args.theory.now c.leave.new.self c.add.new.self (around c.args.theory.now c.domain_sort.new.theory c.enter.new.self c.body_type-body.new.theory c.leave.new.self c.args.a (record { domain = c.domain_sort.ensures.continues; enters = c.in_ok-enter.ensures.ok; inside = c.body_type-body.ensures.continues; leaves = c.leave.ensures }) c.requires.parts.0) c.add.ensures.continues) c.conclude.ensures.continues
 
-pub abstraction-conclude-requires-2-clause-follows : goal.abstraction-conclude-requires-2-clause-follows
-abstraction-conclude-requires-2-clause-follows t c =
+pub inference::abstraction-conclude-requires-2-clause-follows : goal.inference::abstraction-conclude-requires-2-clause-follows
+inference::abstraction-conclude-requires-2-clause-follows t c =
     let a = c.args.theory.now in
     let b = c.domain_sort.new.theory in
     let e = c.body_type-body.new.theory in
@@ -463,14 +463,14 @@ abstraction-conclude-requires-2-clause-follows t c =
     (ap tree made.item ∙ ap (Pi (tree_at d.items c.args.a)) (outer_tree a b c.enter.new.self e d c.args.a h c.requires.parts.0 r.of))
     (sort_outside a b c.enter.new.self e d c.args.a h c.requires.parts.0 g r.sort.0 c.add.ensures.continues body.sorted.term body.sorted.sort) body.judged c.in_ok-formed.ensures.number
 
-pub abstraction-returns-in_err-judge-clause-continues : goal.abstraction-returns-in_err-judge-clause-continues
-abstraction-returns-in_err-judge-clause-continues t c =
+pub inference::abstraction-returns-in_err-judge-clause-continues : goal.inference::abstraction-returns-in_err-judge-clause-continues
+inference::abstraction-returns-in_err-judge-clause-continues t c =
     continues_trans c.args.theory.now c.conclude.new.self c.conclude-2.new.self
     (continues_trans c.args.theory.now c.add.new.self c.conclude.new.self
     (continues_trans c.args.theory.now c.leave.new.self c.add.new.self (around c.args.theory.now c.domain_sort.new.theory c.enter.new.self c.body_type-body.new.theory c.leave.new.self c.args.a (record { domain = c.domain_sort.ensures.continues; enters = c.in_ok-enter.ensures.ok; inside = c.body_type-body.ensures.continues; leaves = c.leave.ensures }) c.requires.parts.0) c.add.ensures.continues) c.conclude.ensures.continues) c.conclude-2.ensures.continues
 
-pub abstraction-returns-clause-answer : goal.abstraction-returns-clause-answer
-abstraction-returns-clause-answer t c =
+pub inference::abstraction-returns-clause-answer : goal.inference::abstraction-returns-clause-answer
+inference::abstraction-returns-clause-answer t c =
     let a = c.args.theory.now in
     let b = c.domain_sort.new.theory in
     let e = c.body_type-body.new.theory in
@@ -485,8 +485,8 @@ abstraction-returns-clause-answer t c =
     c.args.job.now c.domain_sort.new.job c.body_type-body.new.job c.requires.term.0 c.requires.parts.1 c.in_ok-domain.ensures.answer c.in_ok-body.ensures.answer c.add.ensures.continues c.conclude.ensures.continues
     c.conclude-2.ensures.continues (held_term g.items of _ made) (ap tree made.item) (held_small g.items of _ made c.in_ok-of.ensures.small) (sort_outside a b c.enter.new.self e d c.args.a h c.requires.parts.0 g r.sort.0 c.add.ensures.continues body.sorted.term body.sorted.sort) c.in_ok-formed.ensures.number c.in_ok-judge.ensures.number
 
-pub abstraction-returns-clause-continues : goal.abstraction-returns-clause-continues
-abstraction-returns-clause-continues t c =
+pub inference::abstraction-returns-clause-continues : goal.inference::abstraction-returns-clause-continues
+inference::abstraction-returns-clause-continues t c =
     continues_trans c.args.theory.now c.conclude.new.self c.conclude-2.new.self
     (continues_trans c.args.theory.now c.add.new.self c.conclude.new.self
     (continues_trans c.args.theory.now c.leave.new.self c.add.new.self (around c.args.theory.now c.domain_sort.new.theory c.enter.new.self c.body_type-body.new.theory c.leave.new.self c.args.a (record { domain = c.domain_sort.ensures.continues; enters = c.in_ok-enter.ensures.ok; inside = c.body_type-body.ensures.continues; leaves = c.leave.ensures }) c.requires.parts.0) c.add.ensures.continues) c.conclude.ensures.continues) c.conclude-2.ensures.continues

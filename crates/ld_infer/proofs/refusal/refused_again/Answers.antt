@@ -3,7 +3,7 @@ use Rattle.ld_terms.specs.Tree.{count}
 use Rattle.ld_infer.specs.declared.failure.InferFault.{InferFault}
 use Rattle.ld_infer.specs.Reading.{refusal, Again}
 use Rattle.ld_infer.specs.Infers.{IsToldAs}
-use Rattle.ld_infer.proofs.inference.refused_again.Goals as goal
+use Rattle.ld_infer.proofs.refusal.refused_again.Goals as goal
 
 pub returns-in-Refused : goal.returns-in-Refused
 returns-in-Refused c items =

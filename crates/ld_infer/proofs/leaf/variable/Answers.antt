@@ -3,7 +3,7 @@ use Rattle.ld_terms.specs.Tree.{Tree}
 use Rattle.ld_terms.specs.Item.{One, IsSmall}
 use Rattle.std.proofs.lemmas.Result.{err_from_is_err_and}
 use Rattle.ld_infer.proofs.Variables.{variable_there, variable_stops, variable_typed}
-use Rattle.ld_infer.proofs.inference.variable.Goals as goal
+use Rattle.ld_infer.proofs.leaf.variable.Goals as goal
 
 pub variable-requires-clause-small : goal.variable-requires-clause-small
 variable-requires-clause-small c = let P : Tree → Type 0 = λ x. IsSmall (One x) in subst P c.requires.is c.keeps_small.ensures

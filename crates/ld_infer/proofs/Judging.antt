@@ -1,0 +1,130 @@
+-- The arguments of an instance, read one after another: what is said of those so far, and of all.
+use Rattle.std.proofs.Common.{◌≡◌, ◌<◌, ◌≤◌, ◌+◌, ◌-◌, ◌++◌, ◌∷◌, [], ℕ, zero, suc, List, length, refl, ap, sym, ◌∙◌, subst, arith}
+use Rattle.std.specs.List.{AllByRecursion}
+use Rattle.std.proofs.lemmas.List.{length_push}
+use Rattle.ld_terms.specs.Tree.{Tree, Trees, Nil, ◌▸◌, count}
+use Rattle.ld_terms.specs.Item.{Item, One, IsSmall}
+use Rattle.ld_terms.specs.Put.{put}
+use Rattle.ld_terms.specs.Entry.{Env}
+use Rattle.ld_terms.specs.Known.{Judgement, IsNode, JudgeArguments}
+use Rattle.ld_terms.specs.declared.bank.TermFault.{TermFault}
+use Rattle.ld_terms.specs.declared.bank.TermFault.TheVariants as term
+use Rattle.ld_record.specs.declared.record.JudgeId.{JudgeId}
+use Rattle.ld_record.specs.Follows.{numbers_of}
+use Rattle.ld_record.specs.Growth.{Knows}
+use Rattle.ld_record.proofs.Judged.{judge_none, live_more, judges_more, live_later, judges_later}
+use Rattle.ld_infer.specs.declared.failure.RuleName.{RuleName}
+use Rattle.ld_infer.specs.declared.failure.PathStep.{PathStep}
+use Rattle.ld_infer.specs.declared.failure.PathStep.TheVariants.{Nth}
+use Rattle.ld_infer.specs.declared.failure.InferFault.{InferFault}
+use Rattle.ld_infer.specs.declared.failure.InferFault.TheVariants as fault
+use Rattle.ld_infer.specs.Task.{Task, Gives, High, Ends, ◌>>=◌, formed}
+use Rattle.ld_infer.specs.Account.{Account, Comes}
+use Rattle.ld_infer.specs.Reading.{Asked, Refusal, Found, part_reading, argument_reading, next_argument, arguments}
+use Rattle.ld_infer.specs.Standing.{Standing, known, env, here, without, Continues}
+use Rattle.ld_infer.specs.Infers.{Stops, IsSuited, AreJudged, stop_of}
+use Rattle.ld_infer.proofs.Accounts.{comes_at_once, comes_then, comes_ended}
+use Rattle.ld_infer.proofs.Tasks.{formed_answers, formed_high}
+use Rattle.ld_infer.proofs.Stopping.{stops_first, stops_then}
+use Rattle.ld_infer.proofs.Sorts.{gives_now}
+use Rattle.ld_infer.proofs.Going.{continues_refl, continues_trans, here_stays, knows_stays}
+use Rattle.ld_infer.proofs.Staying.{at_both}
+use Rattle.ld_infer.proofs.Prefixing.{without_next, without_all}
+
+module _ (Δ : Env) (depth : ℕ) (read : Asked → Tree → Task Refusal Found) (rule : RuleName) where
+  -- what stops the reading of the first arguments stops that of all
+  pub arguments_stop : (items : List Item) (n : ℕ) (ps us : Trees) (f : InferFault) (w w' : Account) → count us ≡ count ps
+      → Stops items (arguments Δ depth read rule (without n ps) (without n us)) f w w' → Stops items (arguments Δ depth read rule ps us) f w w'
+  arguments_stop items zero ps us f w w' e h = h
+  arguments_stop items (suc n) Nil Nil f w w' e h = arguments_stop items n Nil Nil f w w' e h
+  arguments_stop items (suc n) (ps ▸ p) (us ▸ u) f w w' e h =
+      stops_first items (arguments Δ depth read rule ps us) _ f w w' (arguments_stop items n ps us f w w' (omega (arith, e)) h)
+  arguments_stop items (suc n) Nil (us ▸ u) f w w' e h = absurd (omega (arith, e))
+  arguments_stop items (suc n) (ps ▸ p) Nil f w w' e h = absurd (omega (arith, e))
+
+  -- the wanted type isn't small, or memory runs out
+  pub next_high : (items : List Item) (p : Tree) (us : Trees) (u : Tree) (y : TermFault) (g : InferFault) (w : Account) → (y ≡ term.High → ¬ IsSmall (One (put p us)))
+      → g ≡ fault.Stop (stop_of y) → Stops items (next_argument Δ depth read rule p us u) g w w
+  next_high items p us u term.High g w high e =
+      let P : InferFault → Type 0 = λ x. Stops items (next_argument Δ depth read rule p us u) x w w in
+      subst P (sym e) (comes_ended (formed (put p us)) _ High High w w (comes_at_once (formed (put p us)) High w (formed_high (put p us) w.known (high refl))) Ends.high)
+  next_high items p us u term.Memory g w high e =
+      let P : InferFault → Type 0 = λ x. Stops items (next_argument Δ depth read rule p us u) x w w in subst P (sym e) tt
+
+  wanted_formed : (t : Tree) (w : Account) → IsSmall (One t) → Comes {E = Refusal} (formed t) (Gives t) w w
+  wanted_formed t w small = comes_at_once (formed t) (Gives t) w (formed_answers t w.known small)
+
+  -- the wanted type is small, and the argument is read
+  pub next_stops : (items : List Item) (p : Tree) (us : Trees) (u : Tree) (g : InferFault) (w w' : Account) → IsSmall (One (put p us))
+      → Stops items (argument_reading Δ depth read (Nth (suc (count us))) (rule, suc (count us)) (put p us) u) g w w' → Stops items (next_argument Δ depth read rule p us u) g w w'
+  next_stops items p us u g w w' small h = stops_then items (formed (put p us)) _ (put p us) g w w w' (wanted_formed (put p us) w small) h
+
+  pub next_given : (p : Tree) (us : Trees) (u : Tree) (w w' : Account) → IsSmall (One (put p us))
+      → Comes (argument_reading Δ depth read (Nth (suc (count us))) (rule, suc (count us)) (put p us) u) (Gives tt) w w' → Comes (next_argument Δ depth read rule p us u) (Gives tt) w w'
+  next_given p us u w w' small h = comes_then (formed (put p us)) _ (put p us) (Gives tt) w w w' (wanted_formed (put p us) w small) h
+
+-- the reading of the arguments but so many
+abbrev pub but : (a : Standing) (nest : ℕ) → RuleName → (n : ℕ) (params us : Trees) → Task Refusal (Unit {0})
+but a nest rule n params us = arguments (env a) (count a.context) (part_reading nest (env a) a.context) rule (without n params) (without n us)
+
+-- All arguments but so many are judged.
+pub record AreBegun (a b : Standing) (nest : ℕ) (rule : RuleName) (params us : Trees) (left : ℕ) (w w' : Account) (js : List JudgeId) : Type 0 where
+  pub continues : Continues a b
+  pub most : w'.left ≤ w.left
+  pub all : length js + left ≡ count us
+  pub judged : AreJudged a b (but a nest rule left params us) (without left params) (without left us) w w' js
+
+pub begun_none : (a : Standing) (nest : ℕ) (rule : RuleName) (params us : Trees) (left : ℕ) (w : Account) → left ≡ count us → count us ≡ count params
+    → AreBegun a a nest rule params us left w w []
+begun_none a nest rule params us left w all many =
+    let P : Trees → Trees → Type 0 = λ ps vs. AreJudged a a (arguments (env a) (count a.context) (part_reading nest (env a) a.context) rule ps vs) ps vs w w [] in
+    record {
+      continues = continues_refl a;
+      most = omega arith;
+      all = omega (arith, all);
+      judged = at_both P (sym (without_all left params (all ∙ many))) (sym (without_all left us all))
+          (record { gives = gives_now tt w; live = tt; judged = judge_none (known a) (length (env a)) a.context });
+    }
+
+-- The next argument is told of the standing at the start.
+next_moved : (a b : Standing) (nest : ℕ) (rule : RuleName) (p : Tree) (us : Trees) (u : Tree) (P : Task Refusal (Unit {0}) → Type 0) → Continues a b
+    → P (next_argument (env b) (count b.context) (part_reading nest (env b) b.context) rule p us u) → P (next_argument (env a) (count a.context) (part_reading nest (env a) a.context) rule p us u)
+next_moved a b nest rule p us u P goes h =
+    at_both (λ (Δ : Env) (ctx : Trees). P (next_argument Δ (count ctx) (part_reading nest Δ ctx) rule p us u)) goes.adds.env goes.context h
+
+-- the next argument stops the reading
+pub begun_stops : (a b : Standing) (items : List Item) (nest : ℕ) (rule : RuleName) (params us : Trees) (left now : ℕ) (w w1 w2 : Account) (js : List JudgeId) (ps vs : Trees) (p u : Tree) (g : InferFault)
+    → AreBegun a b nest rule params us left w w1 js → count us ≡ count params → left ≡ suc now → without now params ≡ ps ▸ p → without now us ≡ vs ▸ u
+    → Stops items (next_argument (env b) (count b.context) (part_reading nest (env b) b.context) rule p vs u) g w1 w2
+    → Stops items (arguments (env a) (count a.context) (part_reading nest (env a) a.context) rule params us) g w w2
+begun_stops a b items nest rule params us left now w w1 w2 js ps vs p u g h many next ps_are us_are stops =
+    let P : Trees → Trees → Type 0 = λ qs ws. Comes (arguments (env a) (count a.context) (part_reading nest (env a) a.context) rule qs ws) (Gives tt) w w1 in
+    let Q : Trees → Trees → Type 0 = λ qs ws. Stops items (arguments (env a) (count a.context) (part_reading nest (env a) a.context) rule qs ws) g w w2 in
+    let before = at_both P (ap (λ n. without n params) next ∙ without_next now params ps p ps_are) (ap (λ n. without n us) next ∙ without_next now us vs u us_are) h.judged.gives in
+    let here = next_moved a b nest rule p vs u (λ t. Stops items t g w1 w2) h.continues stops in
+    arguments_stop (env a) (count a.context) (part_reading nest (env a) a.context) rule items now params us g w w2 many
+    (at_both Q (sym ps_are) (sym us_are) (stops_then items (arguments (env a) (count a.context) (part_reading nest (env a) a.context) rule ps vs) _ tt g w w1 w2 before here))
+
+-- the next argument is judged
+pub begun_more : (a b c : Standing) (nest : ℕ) (rule : RuleName) (params us : Trees) (left now : ℕ) (w w1 w2 : Account) (js : List JudgeId) (j : JudgeId) (ps vs : Trees) (p u : Tree)
+    → AreBegun a b nest rule params us left w w1 js → left ≡ suc now → without now params ≡ ps ▸ p → without now us ≡ vs ▸ u → Continues b c → w2.left ≤ w1.left
+    → IsSuited b c (next_argument (env b) (count b.context) (part_reading nest (env b) b.context) rule p vs u) u (put p vs) w1 w2 j
+    → AreBegun a c nest rule params us now w w2 (js ++ j ∷ [])
+begun_more a b c nest rule params us left now w w1 w2 js j ps vs p u h next ps_are us_are goes most suited =
+    let P : Trees → Trees → Type 0 = λ qs ws. AreJudged a b (arguments (env a) (count a.context) (part_reading nest (env a) a.context) rule qs ws) qs ws w w1 js in
+    let Q : Trees → Trees → Type 0 = λ qs ws. AreJudged a c (arguments (env a) (count a.context) (part_reading nest (env a) a.context) rule qs ws) qs ws w w2 (js ++ j ∷ []) in
+    let before = at_both P (ap (λ n. without n params) next ∙ without_next now params ps p ps_are) (ap (λ n. without n us) next ∙ without_next now us vs u us_are) h.judged in
+    let here_given = next_moved a b nest rule p vs u (λ t. Comes t (Gives tt) w1 w2) h.continues suited.gives in
+    let K : Judgement → Type 0 = λ s. Knows (known c) j s in
+    let knows = subst K (here_stays a b u (put p vs) h.continues) suited.judged in
+    let live = live_later (known b) (known c) (numbers_of js) goes.adds before.live in
+    record {
+      continues = continues_trans a b c h.continues goes;
+      most = omega (arith, h.most, most);
+      all = omega (arith, length_push js j, h.all, next);
+      judged = at_both Q (sym ps_are) (sym us_are) (record {
+        gives = comes_then (arguments (env a) (count a.context) (part_reading nest (env a) a.context) rule ps vs) _ tt (Gives tt) w w1 w2 before.gives here_given;
+        live = live_more (known c) js j _ live knows;
+        judged = judges_more (known c) js j (length (env a)) a.context ps vs p u (judges_later (known b) (known c) (numbers_of js) (length (env a)) a.context ps vs goes.adds before.live before.judged) knows;
+      });
+    }

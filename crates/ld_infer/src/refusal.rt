@@ -1,0 +1,70 @@
+//! Refusals, and how those of parts are told.
+ghost use Rattle.std.specs.Prelude.{◌≡◌, ◌<◌, ◌-◌, ◌^◌, List};
+ghost use Rattle.ld_terms.specs.Tree.{count};
+ghost use Rattle.ld_terms.specs.Item.{Item};
+ghost use Rattle.ld_infer.specs.Reading as reading;
+ghost use Rattle.ld_infer.specs.Infers.{IsRefusedBy, IsToldAs, IsWithin, reason_of};
+ghost use Rattle.ld_infer.specs.declared.failure.RuleName.TheVariants as rule;
+
+use crate::failure::{Failure, InferFault, Path, PathStep, RuleName, Why};
+use crate::job::Stop;
+use crate::theory::Theory;
+use std::alloc::Global;
+
+// A refusal of the term itself.
+pub(crate) fn refusal(alloc: Global, theory: &Theory, asked: (RuleName, u32), why: Why) -> InferFault
+    requires { count theory.now.context < 2 ^ 32 }
+    ensures { (items : List Item) → IsRefusedBy items (reading.refusal asked (count theory.now.context) (reason_of items why)) result }
+{
+    InferFault::Refused(Failure {
+        rule: asked.0,
+        premise: asked.1,
+        path: Path::new(alloc),
+        depth: theory.depth(),
+        why,
+    })
+}
+
+// The fault of a type that is typed again: a refusal is told of the type itself.
+pub(crate) fn refused_again(
+    alloc: Global,
+    theory: &Theory,
+    asked: (RuleName, u32),
+    fault: InferFault,
+) -> InferFault
+    requires { count theory.now.context < 2 ^ 32 }
+    ensures { (items : List Item) → IsToldAs items (reading.refusal asked (count theory.now.context) reading.Again) fault result }
+{
+    match fault {
+        InferFault::Refused(_) => refusal(alloc, theory, asked, Why::Again),
+        other => other,
+    }
+}
+
+// The refusal of an abstraction whose body has the type box. The theory is in the context of the body.
+pub(crate) fn box_body(alloc: Global, theory: &Theory) -> InferFault
+    requires inner { 0 < count theory.now.context }
+    requires room { count theory.now.context < 2 ^ 32 }
+    ensures { (items : List Item) → IsRefusedBy items (reading.refusal (rule.Abst, 2) (count theory.now.context - 1) reading.BoxBody) result }
+{
+    InferFault::Refused(Failure {
+        rule: RuleName::Abst,
+        premise: 2,
+        path: Path::new(alloc),
+        depth: theory.depth() - 1,
+        why: Why::BoxBody,
+    })
+}
+
+/// The fault of a part that stands at a step: the step goes in front of a refusal's path.
+pub fn within(step: PathStep, fault: InferFault) -> InferFault
+    ensures { IsWithin step fault result }
+{
+    match fault {
+        InferFault::Refused(mut failure) => match failure.path.within(step) {
+            Ok(()) => InferFault::Refused(failure),
+            Err(_) => InferFault::Stop(Stop::Memory),
+        },
+        other => other,
+    }
+}
