@@ -1,16 +1,19 @@
 -- The arguments of an instance, read one after another: what is said of those so far, and of all.
-use Rattle.std.proofs.Common.{◌≡◌, ◌<◌, ◌≤◌, ◌+◌, ◌-◌, ◌++◌, ◌∷◌, [], ℕ, zero, suc, List, length, refl, ap, sym, ◌∙◌, subst, arith}
+use Rattle.std.proofs.Common.{◌≡◌, ◌<◌, ◌≤◌, ◌+◌, ◌-◌, ◌++◌, ◌∷◌, [], ℕ, zero, suc, List, length, get_or, Result, Ok, Err, refl, ap, sym, ◌∙◌, subst, arith}
 use Rattle.std.specs.List.{AllByRecursion}
 use Rattle.std.proofs.lemmas.List.{length_push}
 use Rattle.ld_terms.specs.Tree.{Tree, Trees, Nil, ◌▸◌, count}
 use Rattle.ld_terms.specs.Item.{Item, One, IsSmall}
 use Rattle.ld_terms.specs.Put.{put}
 use Rattle.ld_terms.specs.Entry.{Env}
+use Rattle.ld_terms.specs.Bank.{tree_at, list_at, IsListAt}
+use Rattle.ld_terms.specs.Record.{params_at}
+use Rattle.ld_terms.specs.declared.bank.TermId.{TermId}
 use Rattle.ld_terms.specs.Known.{Judgement, IsNode, JudgeArguments}
 use Rattle.ld_terms.specs.declared.bank.TermFault.{TermFault}
 use Rattle.ld_terms.specs.declared.bank.TermFault.TheVariants as term
 use Rattle.ld_record.specs.declared.record.JudgeId.{JudgeId}
-use Rattle.ld_record.specs.Follows.{numbers_of}
+use Rattle.ld_record.specs.Follows.{numbers_of, entry_at}
 use Rattle.ld_record.specs.Growth.{Knows}
 use Rattle.ld_record.proofs.Judged.{judge_none, live_more, judges_more, live_later, judges_later}
 use Rattle.ld_infer.specs.declared.failure.RuleName.{RuleName}
@@ -22,14 +25,15 @@ use Rattle.ld_infer.specs.Task.{Task, Gives, High, Ends, ◌>>=◌, formed}
 use Rattle.ld_infer.specs.Account.{Account, Comes}
 use Rattle.ld_infer.specs.Reading.{Asked, Refusal, Found, part_reading, argument_reading, next_argument, arguments}
 use Rattle.ld_infer.specs.Standing.{Standing, known, env, here, without, Continues}
-use Rattle.ld_infer.specs.Infers.{Stops, IsSuited, AreJudged, stop_of}
+use Rattle.ld_infer.specs.Infers.{Stops, Suits, IsSuited, AreJudged, AreReadable, ArePrefixes, stop_of}
 use Rattle.ld_infer.proofs.Accounts.{comes_at_once, comes_then, comes_ended}
 use Rattle.ld_infer.proofs.Tasks.{formed_answers, formed_high}
 use Rattle.ld_infer.proofs.Stopping.{stops_first, stops_then}
 use Rattle.ld_infer.proofs.Sorts.{gives_now}
-use Rattle.ld_infer.proofs.Going.{continues_refl, continues_trans, here_stays, knows_stays}
-use Rattle.ld_infer.proofs.Staying.{at_both}
-use Rattle.ld_infer.proofs.Prefixing.{without_next, without_all}
+use Rattle.ld_infer.proofs.Going.{continues_refl, continues_trans, here_stays}
+use Rattle.ld_infer.proofs.Instances.{list_there, list_stays}
+use Rattle.ld_infer.proofs.Staying.{at_same, at_both}
+use Rattle.ld_infer.proofs.Prefixing.{without_next, without_all, count_without, HasLast, last_left, readable_without, readable_stays}
 
 module _ (Δ : Env) (depth : ℕ) (read : Asked → Tree → Task Refusal Found) (rule : RuleName) where
   -- what stops the reading of the first arguments stops that of all
@@ -62,6 +66,33 @@ module _ (Δ : Env) (depth : ℕ) (read : Asked → Tree → Task Refusal Found)
   pub next_given : (p : Tree) (us : Trees) (u : Tree) (w w' : Account) → IsSmall (One (put p us))
       → Comes (argument_reading Δ depth read (Nth (suc (count us))) (rule, suc (count us)) (put p us) u) (Gives tt) w w' → Comes (next_argument Δ depth read rule p us u) (Gives tt) w w'
   next_given p us u w w' small h = comes_then (formed (put p us)) _ (put p us) (Gives tt) w w w' (wanted_formed (put p us) w small) h
+
+-- The judgement of the next argument: the standings are those at the start, behind the wanted type and behind the judgement.
+reading_moved : (a d : Standing) (nest : ℕ) (rule : RuleName) (n : ℕ) (us : Trees) (wanted type u v : Tree) (P : Task Refusal (Unit {0}) → Type 0) → Continues a d → suc (count us) ≡ n → wanted ≡ type → u ≡ v
+    → P (argument_reading (env d) (count d.context) (part_reading nest (env d) d.context) (Nth n) (rule, n) wanted u)
+    → P (argument_reading (env a) (count a.context) (part_reading nest (env a) a.context) (Nth (suc (count us))) (rule, suc (count us)) type v)
+reading_moved a d nest rule n us wanted type u v P goes number is same h =
+    let Q : ℕ → Tree → Tree → Type 0 = λ m x y. P (argument_reading (env a) (count a.context) (part_reading nest (env a) a.context) (Nth m) (rule, m) x y) in
+    at_same Q (sym number) is same
+    (at_both (λ (Δ : Env) (ctx : Trees). P (argument_reading Δ (count ctx) (part_reading nest Δ ctx) (Nth n) (rule, n) wanted u)) goes.adds.env goes.context h)
+
+pub suits_next : (a d e : Standing) (nest : ℕ) (rule : RuleName) (n : ℕ) (p : Tree) (us : Trees) (v wanted u : Tree) (w w' : Account) (r : Result JudgeId InferFault) → Continues a d → suc (count us) ≡ n
+    → wanted ≡ put p us → u ≡ v → IsSmall (One wanted)
+    → Suits d e (argument_reading (env d) (count d.context) (part_reading nest (env d) d.context) (Nth n) (rule, n) wanted u) u wanted w w' r
+    → Suits a e (next_argument (env a) (count a.context) (part_reading nest (env a) a.context) rule p us v) v (put p us) w w' r
+suits_next a d e nest rule n p us v wanted u w w' (Ok j) goes number is same small h =
+    let P : Tree → Type 0 = λ x. IsSmall (One x) in
+    let Q : Judgement → Type 0 = λ s. Knows (known e) j s in
+    let R : Tree → Tree → Type 0 = λ x y. Knows (known e) j (here a x y) in
+    record {
+      gives = next_given (env a) (count a.context) (part_reading nest (env a) a.context) rule p us v w w' (subst P is small)
+          (reading_moved a d nest rule n us wanted (put p us) u v (λ t. Comes t (Gives tt) w w') goes number is same h.gives);
+      judged = at_both R same is (subst Q (here_stays a d u wanted goes) h.judged);
+    }
+suits_next a d e nest rule n p us v wanted u w w' (Err f) goes number is same small h =
+    let P : Tree → Type 0 = λ x. IsSmall (One x) in
+    next_stops (env a) (count a.context) (part_reading nest (env a) a.context) rule e.items p us v f w w' (subst P is small)
+    (reading_moved a d nest rule n us wanted (put p us) u v (λ t. Stops e.items t f w w') goes number is same h)
 
 -- the reading of the arguments but so many
 abbrev pub but : (a : Standing) (nest : ℕ) → RuleName → (n : ℕ) (params us : Trees) → Task Refusal (Unit {0})
@@ -128,3 +159,48 @@ begun_more a b c nest rule params us left now w w1 w2 js j ps vs p u h next ps_a
         judged = judges_more (known c) js j (length (env a)) a.context ps vs p u (judges_later (known b) (known c) (numbers_of js) (length (env a)) a.context ps vs goes.adds before.live before.judged) knows;
       });
     }
+
+-- What the loop finds for the next argument: the list that ends with it, and its parameter.
+pub record IsNext (a b : Standing) (k left place : ℕ) (us list param : TermId) : Type 0 where
+  pub arguments : HasLast (without (left - 1) (list_at a.items us))
+  pub params : HasLast (without (left - 1) (entry_at (env a) k).params)
+  pub there : IsListAt b.items list
+  pub ends : list_at b.items list ≡ arguments.before ▸ arguments.last
+  pub wanted : tree_at b.items param ≡ params.last
+  pub readable : AreReadable b (list_at b.items list)
+  pub number : count (list_at b.items list) ≡ place + 1
+
+pub next_here : (a b : Standing) (k left place : ℕ) (us list param : TermId) (lists : List TermId) → Continues a b → place + left ≡ count (list_at a.items us) → 0 < left
+    → ArePrefixes a.items (list_at a.items us) lists → AreReadable a (list_at a.items us) → count (list_at a.items us) ≡ params_at (env a) k → list ≡ get_or lists (left - 1) list
+    → ((ps : Trees) (p : Tree) → without (params_at (env b) k - (place + 1)) (entry_at (env b) k).params ≡ ps ▸ p → tree_at b.items param ≡ p)
+    → IsNext a b k left place us list param
+next_here a b k left place us list param lists goes all some firsts readable many read param_is =
+    let vs = list_at a.items us in
+    let ws = last_left (left - 1) vs (omega (arith, all, some)) in
+    let ps = last_left (left - 1) (entry_at (env a) k).params (omega (arith, all, some, many)) in
+    let P : TermId → Type 0 = λ t. IsListAt a.items t × (list_at a.items t ≡ without (left - 1) vs) in
+    let at = subst P (sym read) (firsts.each (left - 1) list (omega (arith, all, some, firsts.as_many))) in
+    let same : list_at b.items list ≡ without (left - 1) vs = list_stays a b list goes at.0 ∙ at.1 in
+    let place_is : params_at (env b) k - (place + 1) ≡ left - 1 = omega (arith, all, some, many, ap (λ (Δ : Env). params_at Δ k) goes.adds.env) in
+    let left_params : without (params_at (env b) k - (place + 1)) (entry_at (env b) k).params ≡ ps.before ▸ ps.last =
+    ap (λ n. without n (entry_at (env b) k).params) place_is ∙ ap (λ (Δ : Env). without (left - 1) (entry_at Δ k).params) goes.adds.env ∙ ps.is in
+    record {
+      arguments = ws;
+      params = ps;
+      there = list_there a b list goes at.0;
+      ends = same ∙ ws.is;
+      wanted = param_is ps.before ps.last left_params;
+      readable = readable_stays a b (without (left - 1) vs) (list_at b.items list) goes (sym same) (readable_without a (left - 1) vs readable);
+      number = omega (arith, ap count same, count_without (left - 1) vs, all, some);
+    }
+
+-- the same, from what the calls in the loop give
+pub next_found : (a b : Standing) (bank : List Item) (k left first place : ℕ) (us list param : TermId) (lists : List TermId) (js : List JudgeId) → Continues a b → length js + left ≡ count (list_at a.items us) → 0 < left
+    → bank ≡ a.items → ArePrefixes bank (list_at bank us) lists → AreReadable a (list_at a.items us) → count (list_at a.items us) ≡ params_at (env a) k → list ≡ get_or lists (left - 1) list
+    → first ≡ length js → place ≡ length js
+    → ((ps : Trees) (p : Tree) → without (params_at (env b) k - (first + 1)) (entry_at (env b) k).params ≡ ps ▸ p → tree_at b.items param ≡ p)
+    → IsNext a b k left place us list param
+next_found a b bank k left first place us list param lists js goes all some same firsts readable many read first_is place_is param_is =
+    let P : List Item → Type 0 = λ xs. ArePrefixes xs (list_at xs us) lists in
+    let Q : ℕ → Type 0 = λ n. (ps : Trees) (p : Tree) → without (params_at (env b) k - (n + 1)) (entry_at (env b) k).params ≡ ps ▸ p → tree_at b.items param ≡ p in
+    next_here a b k left place us list param lists goes (omega (arith, all, place_is)) some (subst P same firsts) readable many read (subst Q (first_is ∙ sym place_is) param_is)

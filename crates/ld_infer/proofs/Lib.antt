@@ -17,6 +17,6 @@ pub mod Applying
 pub mod Inferring
 pub mod Around
 pub mod Prefixing
-pub mod Judging
 pub mod Instances
+pub mod Judging
 pub mod Closed

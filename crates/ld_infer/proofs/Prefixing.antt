@@ -13,6 +13,7 @@ use Rattle.ld_terms.specs.Entry.{Env, AreScoped}
 use Rattle.ld_infer.specs.Standing.{Standing, env, Continues, without, without_last}
 use Rattle.ld_infer.specs.Infers.{AreReadable, ArePrefixes}
 use Rattle.ld_infer.proofs.Staying.{at_same}
+use Rattle.ld_infer.proofs.Nodes.{node_item}
 
 -- without one tree more
 without_more : (n : ℕ) (us : Trees) → without (suc n) us ≡ without_last (without n us)
@@ -127,3 +128,11 @@ readable_without s (suc n) (us ▸ u) h = readable_without s n us (h.0.0, h.1.0)
 pub readable_stays : (a b : Standing) (us vs : Trees) → Continues a b → us ≡ vs → AreReadable a us → AreReadable b vs
 readable_stays a b us vs goes same h =
     at_same (λ (Δ : Env) (ctx : Trees) (ws : Trees). AreNamed Δ ws × AreScoped ws (count ctx)) (sym goes.adds.env) (sym goes.context) same h
+
+-- the parts of a list that is no empty one
+pub cons_parts : (bank items : List Item) (u before whole : TermId) (us : Trees) (x : Tree) → bank ≡ items → item_of bank (node.Cons u before) ≡ item_at bank whole → list_at items whole ≡ us ▸ x
+    → (list_at items before ≡ us) × (tree_at items u ≡ x)
+cons_parts bank items u before whole us x same holds is = parts _ _ _ _ (ap list (node_item bank items (node.Cons u before) whole same holds) ∙ is)
+  where
+    parts : (us vs : Trees) (u v : Tree) → us ▸ u ≡ vs ▸ v → (us ≡ vs) × (u ≡ v)
+    parts us vs u v e = (cc, cc)

@@ -1,20 +1,27 @@
-use Rattle.std.proofs.Common.{rules, ◌≡◌, ◌+◌, ◌-◌, ℕ, List, Bool, Result, Err, ap, sym, ◌∙◌, subst, arith}
+use Rattle.std.proofs.Common.{rules, ◌≡◌, ◌+◌, ◌-◌, ◌++◌, ◌∷◌, [], ℕ, List, length, Bool, Result, Err, ap, sym, ◌∙◌, subst, arith}
 use Rattle.std.specs.Prelude.{is_some}
 use Rattle.std.proofs.lemmas.Bool.{false≢true}
+use Rattle.std.proofs.lemmas.Grind.{common_steps}
 use Rattle.std.proofs.lemmas.Result.{err_from_is_err_and}
-use Rattle.ld_terms.specs.Tree.{Trees, Star, Box, Var, App, Lam, Pi, Const, count}
-use Rattle.ld_terms.specs.Item.{Item, tree}
+use Rattle.ld_terms.specs.Tree.{Tree, Trees, Star, Box, Var, App, Lam, Pi, Const, ◌▸◌, count}
+use Rattle.ld_terms.specs.Item.{Item, One, IsSmall, tree}
+use Rattle.ld_terms.specs.Put.{put}
+use Rattle.ld_terms.specs.Entry.{Env}
+use Rattle.ld_terms.specs.Record.{params_at}
 use Rattle.ld_terms.specs.Bank.{tree_at, list_at, item_at, IsTermAt}
 use Rattle.ld_terms.specs.declared.bank.Node.TheVariants as node
+use Rattle.ld_terms.specs.declared.bank.TermFault.TheVariants as term
+use Rattle.ld_record.specs.declared.record.JudgeId.{JudgeId}
+use Rattle.ld_record.specs.Follows.{entry_at}
 use Rattle.ld_infer.specs.declared.failure.RuleName.TheVariants as rule
 use Rattle.ld_infer.specs.declared.failure.PathStep.TheVariants.{Dom}
 use Rattle.ld_infer.specs.declared.failure.InferFault.{InferFault}
 use Rattle.ld_infer.specs.declared.inference.Typed.{Typed}
 use Rattle.ld_infer.specs.Task.{Gives}
 use Rattle.ld_infer.specs.Account.{Comes}
-use Rattle.ld_infer.specs.Reading.{Types, SortOf, read_within, part_reading, again_unless, refused, refusal, NoType, BoxBody, Again, found, product_reading, abstraction_reading, application_reading, body_reading}
-use Rattle.ld_infer.specs.Standing.{env}
-use Rattle.ld_infer.specs.Infers.{Infers, InfersSort, TypesAgain, InfersBody, Stops, IsRefusedBy, IsToldAs}
+use Rattle.ld_infer.specs.Reading.{Types, SortOf, read_within, part_reading, again_unless, refused, refusal, NoType, BoxBody, Again, found, product_reading, abstraction_reading, application_reading, body_reading, next_argument, arguments}
+use Rattle.ld_infer.specs.Standing.{env, without}
+use Rattle.ld_infer.specs.Infers.{Infers, InfersSort, TypesAgain, InfersBody, Suits, IsSuited, JudgesArguments, AreJudged, ArePrefixes, IsInstanceStep, Stops, IsRefusedBy, IsToldAs}
 use Rattle.ld_infer.proofs.Stopping.{stops_within, gives_within, refused_by}
 use Rattle.ld_infer.proofs.Going.{continues_trans, term_stays, tree_stays}
 use Rattle.ld_infer.proofs.Nodes.{node_item, node_tree, sort_node, sort_tested, no_sort_node, no_box_node, no_product_node, same_items}
@@ -24,6 +31,9 @@ use Rattle.ld_infer.proofs.Binding.{product_stops_domain, abstraction_stops_doma
 use Rattle.ld_infer.proofs.Applying.{application_stops_function}
 use Rattle.ld_infer.proofs.Inferring.{function_typed, argument_typed, application_refused, application_high, application_typed, sort_come, held_term, held_small, body_typed, body_refused, type_well_formed}
 use Rattle.ld_infer.proofs.Around.{IsAround, around, range_refused, product_typed, body_stopped, abstraction_high, abstraction_typed, abstraction_follows, outer_tree, inner_context, sort_outside}
+use Rattle.ld_infer.proofs.Prefixing.{cons_parts}
+use Rattle.ld_infer.proofs.Instances.{instance_parts, entry_here, instance_task, instance_refused, instance_high, instance_ready, instance_typed}
+use Rattle.ld_infer.proofs.Judging.{next_high, suits_next, but, AreBegun, begun_none, begun_stops, begun_more, next_found}
 use Rattle.ld_infer.proofs.+infer.Goals as goal
 
 -- The reading of a term, by its form.
@@ -490,3 +500,212 @@ inference::abstraction-returns-clause-continues t c =
     continues_trans c.args.theory.now c.conclude.new.self c.conclude-2.new.self
     (continues_trans c.args.theory.now c.add.new.self c.conclude.new.self
     (continues_trans c.args.theory.now c.leave.new.self c.add.new.self (around c.args.theory.now c.domain_sort.new.theory c.enter.new.self c.body_type-body.new.theory c.leave.new.self c.args.a (record { domain = c.domain_sort.ensures.continues; enters = c.in_ok-enter.ensures.ok; inside = c.body_type-body.ensures.continues; leaves = c.leave.ensures }) c.requires.parts.0) c.add.ensures.continues) c.conclude.ensures.continues) c.conclude-2.ensures.continues
+
+-- The next argument of an instance.
+pub instance::argument-returns-in_err-wanted-clause-answer : goal.instance::argument-returns-in_err-wanted-clause-answer
+instance::argument-returns-in_err-wanted-clause-answer t c us u is =
+    let a = c.args.theory.now in
+    let d = c.instantiate_list.new.self in
+    let w = c.args.job.now in
+    let p = err_from_is_err_and c.from_residual.result c.from_residual.ensures.1 in
+    let y = c.in_err-wanted.field-0 in
+    let param = tree_at a.items c.args.param in
+    let parts = cons_parts c.bank.result.now a.items c.in-Cons.u c.in-Cons.before c.args.list us u c.bank.ensures c.in-Cons.ensures.tree is in
+    let P : Result JudgeId InferFault → Type 0 = λ r. Suits a d (next_argument (env a) (count a.context) (part_reading c.args.nest (env a) a.context) c.args.asked.0 param us u) u (put param us) w w r in
+    let Q : Trees → Type 0 = λ vs. y.0 ≡ term.High → ¬ IsSmall (One (put param vs)) in
+    subst P (sym p.1)
+    (next_high (env a) (count a.context) (part_reading c.args.nest (env a) a.context) c.args.asked.0 d.items param us u y.0 p.0 w (subst Q parts.0 (λ e. c.in_err-wanted.ensures.high (ap Err e))) p.2)
+
+pub instance::argument-returns-clause-answer : goal.instance::argument-returns-clause-answer
+instance::argument-returns-clause-answer t c us u is =
+    let a = c.args.theory.now in
+    let d = c.instantiate_list.new.self in
+    let parts = cons_parts c.bank.result.now a.items c.in-Cons.u c.in-Cons.before c.args.list us u c.bank.ensures c.in-Cons.ensures.tree is in
+    let term = subst (λ xs. IsTermAt xs c.in-Cons.u) c.bank.ensures c.in-Cons.ensures.parts.0 in
+    let made = c.in_ok-wanted.ensures.tree in
+    suits_next a d c.argument_judgement.new.theory c.args.nest c.args.asked.0 c.args.asked.1 (tree_at a.items c.args.param) us u (tree_at d.items c.in_ok-wanted.wanted) (tree_at d.items c.in-Cons.u)
+    c.args.job.now c.argument_judgement.new.job c.argument_judgement.result c.instantiate_list.ensures.continues (omega (arith, ap count is, c.requires.number))
+    (ap tree made.item ∙ ap (put (tree_at a.items c.args.param)) parts.0) (tree_stays a d c.in-Cons.u c.instantiate_list.ensures.continues term ∙ parts.1)
+    (held_small d.items c.in_ok-wanted.wanted _ made c.in_ok-wanted.ensures.small) c.argument_judgement.ensures.answer
+
+pub instance::argument-returns-clause-continues : goal.instance::argument-returns-clause-continues
+instance::argument-returns-clause-continues t c = continues_trans c.args.theory.now c.instantiate_list.new.self c.argument_judgement.new.theory c.instantiate_list.ensures.continues c.argument_judgement.ensures.continues
+
+-- The arguments of an instance, one after another.
+pub instance::arguments-loop-left-init : goal.instance::arguments-loop-left-init
+instance::arguments-loop-left-init t c =
+    let a = c.args.theory.now in
+    let params = (entry_at (env a) c.args.k).params in
+    let us = list_at a.items c.args.us in
+    let w = c.args.job.now in
+    let P : List JudgeId → Type 0 = λ js. AreBegun a a c.args.nest c.args.rule params us c.len-left.result w w js in
+    let Q : List Item → Type 0 = λ xs. ArePrefixes xs (list_at xs c.args.us) c.in_ok-lists.lists.items in
+    let firsts = subst Q c.bank.ensures c.in_ok-lists.ensures in
+    subst P (sym c.new-judges.ensures.items) (begun_none a c.args.nest c.args.rule params us c.len-left.result w (omega (arith, c.len-left.ensures, firsts.as_many)) c.requires.as_many)
+
+pub instance::arguments-parameter-param-requires-clause-there : goal.instance::arguments-parameter-param-requires-clause-there
+instance::arguments-parameter-param-requires-clause-there t c = omega (arith, c.requires.there, ap length c.loop-left.invariant.continues.adds.env)
+
+pub instance::arguments-parameter-param-requires-clause-place : goal.instance::arguments-parameter-param-requires-clause-place
+instance::arguments-parameter-param-requires-clause-place t c =
+    omega (arith, c.len.ensures, c.loop-left.invariant.all, c.loop-left-test.true, c.requires.as_many, ap (λ (Δ : Env). params_at Δ c.args.k) c.loop-left.invariant.continues.adds.env)
+
+pub instance::arguments-returns-in_err-number-clause-continues : goal.instance::arguments-returns-in_err-number-clause-continues
+instance::arguments-returns-in_err-number-clause-continues t c = c.loop-left.invariant.continues
+
+pub instance::arguments-returns-in_err-number-clause-most : goal.instance::arguments-returns-in_err-number-clause-most
+instance::arguments-returns-in_err-number-clause-most t c = c.loop-left.invariant.most
+
+pub instance::arguments-index-requires : goal.instance::arguments-index-requires
+instance::arguments-index-requires t c =
+    let a = c.args.theory.now in
+    let Q : List Item → Type 0 = λ xs. ArePrefixes xs (list_at xs c.args.us) c.in_ok-lists.lists.items in
+    let firsts = subst Q c.bank.ensures c.in_ok-lists.ensures in
+    omega (arith, c.loop-left.invariant.all, c.loop-left-test.true, firsts.as_many)
+
+pub instance::arguments-argument-requires : goal.instance::arguments-argument-requires
+instance::arguments-argument-requires t c =
+    let next = next_found c.args.theory.now c.loop-left.theory c.bank.result.now c.args.k c.loop-left.left c.len.result c.len-in-loop-left.result c.args.us c.index.result.now c.parameter-param.result c.in_ok-lists.lists.items
+    c.loop-left.judges.items c.loop-left.invariant.continues c.loop-left.invariant.all (omega (arith, c.loop-left-test.true)) c.bank.ensures c.in_ok-lists.ensures c.requires.readable c.requires.as_many c.index.ensures
+    (omega (arith, c.len.ensures)) (omega (arith, c.len-in-loop-left.ensures)) c.parameter-param.ensures.is in
+    let number = c.in_ok-number.ensures in
+    (omega arith, (next.there, (next.readable, (omega (arith, number), (omega (arith, number, next.number), (c.parameter-param.ensures.term, (c.requires.nest, omega (arith, c.requires.room, ap count c.loop-left.invariant.continues.context))))))))
+
+pub instance::arguments-returns-in_err-judge-clause-answer : goal.instance::arguments-returns-in_err-judge-clause-answer
+instance::arguments-returns-in_err-judge-clause-answer t c =
+    let a = c.args.theory.now in
+    let b = c.loop-left.theory in
+    let e = c.argument.new.theory in
+    let params = (entry_at (env a) c.args.k).params in
+    let us = list_at a.items c.args.us in
+    let next = next_found c.args.theory.now c.loop-left.theory c.bank.result.now c.args.k c.loop-left.left c.len.result c.len-in-loop-left.result c.args.us c.index.result.now c.parameter-param.result c.in_ok-lists.lists.items
+    c.loop-left.judges.items c.loop-left.invariant.continues c.loop-left.invariant.all (omega (arith, c.loop-left-test.true)) c.bank.ensures c.in_ok-lists.ensures c.requires.readable c.requires.as_many c.index.ensures
+    (omega (arith, c.len.ensures)) (omega (arith, c.len-in-loop-left.ensures)) c.parameter-param.ensures.is in
+    let p = err_from_is_err_and c.from_residual-in_err-judge.result c.from_residual-in_err-judge.ensures.1 in
+    let f = c.in_err-judge.field-0.0 in
+    let P : Tree → Type 0 = λ x. Stops e.items (next_argument (env b) (count b.context) (part_reading c.args.nest (env b) b.context) c.args.rule x next.arguments.before next.arguments.last) f c.loop-left.job c.argument.new.job in
+    at_fault (λ r. JudgesArguments a e (arguments (env a) (count a.context) (part_reading c.args.nest (env a) a.context) c.args.rule params us) params us c.args.job.now c.argument.new.job r) c.from_residual-in_err-judge.result f p.0 p.1 p.2
+    (begun_stops a b e.items c.args.nest c.args.rule params us c.loop-left.left (c.loop-left.left - 1) c.args.job.now c.loop-left.job c.argument.new.job c.loop-left.judges.items next.params.before next.arguments.before
+    next.params.last next.arguments.last f c.loop-left.invariant c.requires.as_many (omega (arith, c.loop-left-test.true)) next.params.is next.arguments.is
+    (subst P next.wanted (c.in_err-judge.ensures.answer next.arguments.before next.arguments.last next.ends)))
+
+pub instance::arguments-returns-in_err-judge-clause-continues : goal.instance::arguments-returns-in_err-judge-clause-continues
+instance::arguments-returns-in_err-judge-clause-continues t c = continues_trans c.args.theory.now c.loop-left.theory c.argument.new.theory c.loop-left.invariant.continues c.argument.ensures.continues
+
+pub instance::arguments-returns-in_err-judge-clause-most : goal.instance::arguments-returns-in_err-judge-clause-most
+instance::arguments-returns-in_err-judge-clause-most t c = omega (arith, c.loop-left.invariant.most, c.argument.ensures.most)
+
+pub instance::arguments-loop-left-preserved : goal.instance::arguments-loop-left-preserved
+instance::arguments-loop-left-preserved t c =
+    let a = c.args.theory.now in
+    let b = c.loop-left.theory in
+    let e = c.argument.new.theory in
+    let params = (entry_at (env a) c.args.k).params in
+    let us = list_at a.items c.args.us in
+    let next = next_found c.args.theory.now c.loop-left.theory c.bank.result.now c.args.k c.loop-left.left c.len.result c.len-in-loop-left.result c.args.us c.index.result.now c.parameter-param.result c.in_ok-lists.lists.items
+    c.loop-left.judges.items c.loop-left.invariant.continues c.loop-left.invariant.all (omega (arith, c.loop-left-test.true)) c.bank.ensures c.in_ok-lists.ensures c.requires.readable c.requires.as_many c.index.ensures
+    (omega (arith, c.len.ensures)) (omega (arith, c.len-in-loop-left.ensures)) c.parameter-param.ensures.is in
+    let j = c.in_ok-judge.judge in
+    let P : Tree → Type 0 = λ x. IsSuited b e (next_argument (env b) (count b.context) (part_reading c.args.nest (env b) b.context) c.args.rule x next.arguments.before next.arguments.last) next.arguments.last
+    (put x next.arguments.before) c.loop-left.job c.argument.new.job j in
+    let Q : List JudgeId → Type 0 = λ js. AreBegun a e c.args.nest c.args.rule params us (c.loop-left.left - 1) c.args.job.now c.argument.new.job js in
+    let pushed : c.push.new.self.items ≡ c.loop-left.judges.items ++ j ∷ [] = grind (arith, common_steps) in
+    subst Q (sym pushed)
+    (begun_more a b e c.args.nest c.args.rule params us c.loop-left.left (c.loop-left.left - 1) c.args.job.now c.loop-left.job c.argument.new.job c.loop-left.judges.items j next.params.before next.arguments.before
+    next.params.last next.arguments.last c.loop-left.invariant (omega (arith, c.loop-left-test.true)) next.params.is next.arguments.is c.argument.ensures.continues c.argument.ensures.most
+    (subst P next.wanted (c.in_ok-judge.ensures.answer next.arguments.before next.arguments.last next.ends)))
+
+pub instance::arguments-returns-in_err-map_err-clause-continues : goal.instance::arguments-returns-in_err-map_err-clause-continues
+instance::arguments-returns-in_err-map_err-clause-continues t c = continues_trans c.args.theory.now c.loop-left.theory c.argument.new.theory c.loop-left.invariant.continues c.argument.ensures.continues
+
+pub instance::arguments-returns-in_err-map_err-clause-most : goal.instance::arguments-returns-in_err-map_err-clause-most
+instance::arguments-returns-in_err-map_err-clause-most t c = omega (arith, c.loop-left.invariant.most, c.argument.ensures.most)
+
+pub instance::arguments-returns-clause-answer : goal.instance::arguments-returns-clause-answer
+instance::arguments-returns-clause-answer t c =
+    let a = c.args.theory.now in
+    let none : c.loop-left.left ≡ 0 = omega (arith, c.loop-left-test.false) in
+    let P : ℕ → Type 0 = λ n. AreJudged a c.loop-left.theory (but a c.args.nest c.args.rule n (entry_at (env a) c.args.k).params (list_at a.items c.args.us)) (without n (entry_at (env a) c.args.k).params)
+    (without n (list_at a.items c.args.us)) c.args.job.now c.loop-left.job c.loop-left.judges.items in
+    subst P none c.loop-left.invariant.judged
+
+pub instance::arguments-returns-clause-continues : goal.instance::arguments-returns-clause-continues
+instance::arguments-returns-clause-continues t c = c.loop-left.invariant.continues
+
+pub instance::arguments-returns-clause-most : goal.instance::arguments-returns-clause-most
+instance::arguments-returns-clause-most t c = c.loop-left.invariant.most
+
+-- An instance.
+pub instance::instance-returns-in_err-judges-clause-answer : goal.instance::instance-returns-in_err-judges-clause-answer
+instance::instance-returns-in_err-judges-clause-answer t c =
+    let a = c.args.theory.now in
+    let b = c.arguments.new.theory in
+    let p = err_from_is_err_and c.from_residual.result c.from_residual.ensures.1 in
+    let e = entry_here a _ c.args.k c.entry-entry.result.now c.env.ensures.entries c.entry-entry.ensures c.env.ensures.trees c.env.ensures.live in
+    at_fault (λ r. Infers a b (instance_task a c.args.nest c.args.k (list_at a.items c.args.us)) c.args.t c.args.job.now c.arguments.new.job r) c.from_residual.result c.in_err-judges.field-0.0 p.0 p.1 p.2
+    (instance_refused a b.items c.args.nest c.args.k (list_at a.items c.args.us) c.entry-entry.result.now c.instance_rule.result c.in_err-judges.field-0.0 c.args.job.now c.arguments.new.job e
+    (c.instance_rule.ensures a.items) c.in_err-judges.ensures.answer)
+
+pub instance::instance-instantiate_list-requires-clause-body : goal.instance::instance-instantiate_list-requires-clause-body
+instance::instance-instantiate_list-requires-clause-body t c =
+    let a = c.args.theory.now in
+    let e = entry_here a _ c.args.k c.entry-entry.result.now c.env.ensures.entries c.entry-entry.ensures c.env.ensures.trees c.env.ensures.live in
+    term_stays a c.arguments.new.theory c.entry-entry.result.now.of c.arguments.ensures.continues e.live.type
+
+pub instance::instance-returns-in_err-of-clause-answer : goal.instance::instance-returns-in_err-of-clause-answer
+instance::instance-returns-in_err-of-clause-answer t c =
+    let a = c.args.theory.now in
+    let b = c.arguments.new.theory in
+    let d = c.instantiate_list.new.self in
+    let us = list_at a.items c.args.us in
+    let p = err_from_is_err_and c.from_residual-in_err-of.result c.from_residual-in_err-of.ensures.1 in
+    let y = c.in_err-of.field-0.0 in
+    let e = entry_here a _ c.args.k c.entry-entry.result.now c.env.ensures.entries c.entry-entry.ensures c.env.ensures.trees c.env.ensures.live in
+    let P : Result Typed InferFault → Type 0 = λ r. Infers a d (instance_task a c.args.nest c.args.k us) c.args.t c.args.job.now c.arguments.new.job r in
+    subst P (sym p.1)
+    (instance_high a b d.items c.args.nest c.args.k c.args.us c.entry-entry.result.now c.instance_rule.result c.in_ok-judges.judges.items y p.0 c.args.job.now c.arguments.new.job e c.requires.list c.arguments.ensures.continues
+    (c.instance_rule.ensures a.items) c.in_ok-judges.ensures.answer (λ q. c.in_err-of.ensures.high (ap Err q)) p.2)
+
+pub instance::instance-returns-in_err-of-clause-continues : goal.instance::instance-returns-in_err-of-clause-continues
+instance::instance-returns-in_err-of-clause-continues t c = continues_trans c.args.theory.now c.arguments.new.theory c.instantiate_list.new.self c.arguments.ensures.continues c.instantiate_list.ensures.continues
+
+pub instance::instance-returns-in_err-star-clause-continues : goal.instance::instance-returns-in_err-star-clause-continues
+instance::instance-returns-in_err-star-clause-continues t c =
+    continues_trans c.args.theory.now c.instantiate_list.new.self c.star_judgement.new.self
+    (continues_trans c.args.theory.now c.arguments.new.theory c.instantiate_list.new.self c.arguments.ensures.continues c.instantiate_list.ensures.continues) c.star_judgement.ensures.continues
+
+pub instance::instance-conclude-requires-clause-follows : goal.instance::instance-conclude-requires-clause-follows
+instance::instance-conclude-requires-clause-follows t c =
+    let a = c.args.theory.now in
+    let d = c.instantiate_list.new.self in
+    let made = c.in_ok-of.ensures.tree in
+    let parts = instance_parts a (tree_at a.items c.args.t) c.args.k (list_at a.items c.args.us) c.requires.is c.requires.term.1 in
+    let e = entry_here a _ c.args.k c.entry-entry.result.now c.env.ensures.entries c.entry-entry.ensures c.env.ensures.trees c.env.ensures.live in
+    let P : List JudgeId → Type 0 = λ js. IsInstanceStep c.entry-entry.result.now.body c.in_ok-star.star js c.instance_step.result in
+    instance_ready a c.arguments.new.theory d c.star_judgement.new.self c.args.k c.args.t c.args.us c.in_ok-of.of c.entry-entry.result.now
+    (arguments (env a) (count a.context) (part_reading c.args.nest (env a) a.context) c.instance_rule.result (entry_at (env a) c.args.k).params (list_at a.items c.args.us)) c.args.job.now c.arguments.new.job c.in_ok-star.star c.in_ok-judges.judges.items
+    c.instance_step.result e c.requires.list c.requires.term.0 c.requires.is parts.below c.arguments.ensures.continues c.instantiate_list.ensures.continues c.star_judgement.ensures.continues c.in_ok-judges.ensures.answer
+    (held_term d.items c.in_ok-of.of _ made) (ap tree made.item) c.in_ok-star.ensures.number (subst P c.from_vec.ensures c.instance_step.ensures)
+
+pub instance::instance-returns-in_err-judge-clause-continues : goal.instance::instance-returns-in_err-judge-clause-continues
+instance::instance-returns-in_err-judge-clause-continues t c =
+    continues_trans c.args.theory.now c.star_judgement.new.self c.conclude.new.self
+    (continues_trans c.args.theory.now c.instantiate_list.new.self c.star_judgement.new.self
+    (continues_trans c.args.theory.now c.arguments.new.theory c.instantiate_list.new.self c.arguments.ensures.continues c.instantiate_list.ensures.continues) c.star_judgement.ensures.continues) c.conclude.ensures.continues
+
+pub instance::instance-returns-clause-answer : goal.instance::instance-returns-clause-answer
+instance::instance-returns-clause-answer t c =
+    let a = c.args.theory.now in
+    let d = c.instantiate_list.new.self in
+    let made = c.in_ok-of.ensures.tree in
+    let e = entry_here a _ c.args.k c.entry-entry.result.now c.env.ensures.entries c.entry-entry.ensures c.env.ensures.trees c.env.ensures.live in
+    instance_typed a c.arguments.new.theory d c.star_judgement.new.self c.conclude.new.self c.args.nest c.args.k c.args.t c.args.us c.in_ok-of.of c.entry-entry.result.now c.instance_rule.result
+    c.args.job.now c.arguments.new.job c.in_ok-judges.judges.items c.in_ok-judge.judge e c.requires.list c.requires.term.0 (c.instance_rule.ensures a.items) c.arguments.ensures.continues
+    c.instantiate_list.ensures.continues c.star_judgement.ensures.continues c.conclude.ensures.continues c.in_ok-judges.ensures.answer (held_term d.items c.in_ok-of.of _ made) (ap tree made.item)
+    (held_small d.items c.in_ok-of.of _ made c.in_ok-of.ensures.small) c.in_ok-judge.ensures.number
+
+pub instance::instance-returns-clause-continues : goal.instance::instance-returns-clause-continues
+instance::instance-returns-clause-continues t c =
+    continues_trans c.args.theory.now c.star_judgement.new.self c.conclude.new.self
+    (continues_trans c.args.theory.now c.instantiate_list.new.self c.star_judgement.new.self
+    (continues_trans c.args.theory.now c.arguments.new.theory c.instantiate_list.new.self c.arguments.ensures.continues c.instantiate_list.ensures.continues) c.star_judgement.ensures.continues) c.conclude.ensures.continues
