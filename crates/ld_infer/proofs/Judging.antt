@@ -124,7 +124,7 @@ next_moved a b nest rule p us u P goes h =
     at_both (λ (Δ : Env) (ctx : Trees). P (next_argument Δ (count ctx) (part_reading nest Δ ctx) rule p us u)) goes.adds.env goes.context h
 
 -- the next argument stops the reading
-pub begun_stops : (a b : Standing) (items : List Item) (nest : ℕ) (rule : RuleName) (params us : Trees) (left now : ℕ) (w w1 w2 : Account) (js : List JudgeId) (ps vs : Trees) (p u : Tree) (g : InferFault)
+begun_stops : (a b : Standing) (items : List Item) (nest : ℕ) (rule : RuleName) (params us : Trees) (left now : ℕ) (w w1 w2 : Account) (js : List JudgeId) (ps vs : Trees) (p u : Tree) (g : InferFault)
     → AreBegun a b nest rule params us left w w1 js → count us ≡ count params → left ≡ suc now → without now params ≡ ps ▸ p → without now us ≡ vs ▸ u
     → Stops items (next_argument (env b) (count b.context) (part_reading nest (env b) b.context) rule p vs u) g w1 w2
     → Stops items (arguments (env a) (count a.context) (part_reading nest (env a) a.context) rule params us) g w w2
@@ -137,7 +137,7 @@ begun_stops a b items nest rule params us left now w w1 w2 js ps vs p u g h many
     (at_both Q (sym ps_are) (sym us_are) (stops_then items (arguments (env a) (count a.context) (part_reading nest (env a) a.context) rule ps vs) _ tt g w w1 w2 before here))
 
 -- the next argument is judged
-pub begun_more : (a b c : Standing) (nest : ℕ) (rule : RuleName) (params us : Trees) (left now : ℕ) (w w1 w2 : Account) (js : List JudgeId) (j : JudgeId) (ps vs : Trees) (p u : Tree)
+begun_more : (a b c : Standing) (nest : ℕ) (rule : RuleName) (params us : Trees) (left now : ℕ) (w w1 w2 : Account) (js : List JudgeId) (j : JudgeId) (ps vs : Trees) (p u : Tree)
     → AreBegun a b nest rule params us left w w1 js → left ≡ suc now → without now params ≡ ps ▸ p → without now us ≡ vs ▸ u → Continues b c → w2.left ≤ w1.left
     → IsSuited b c (next_argument (env b) (count b.context) (part_reading nest (env b) b.context) rule p vs u) u (put p vs) w1 w2 j
     → AreBegun a c nest rule params us now w w2 (js ++ j ∷ [])
@@ -170,7 +170,7 @@ pub record IsNext (a b : Standing) (k left place : ℕ) (us list param : TermId)
   pub readable : AreReadable b (list_at b.items list)
   pub number : count (list_at b.items list) ≡ place + 1
 
-pub next_here : (a b : Standing) (k left place : ℕ) (us list param : TermId) (lists : List TermId) → Continues a b → place + left ≡ count (list_at a.items us) → 0 < left
+next_here : (a b : Standing) (k left place : ℕ) (us list param : TermId) (lists : List TermId) → Continues a b → place + left ≡ count (list_at a.items us) → 0 < left
     → ArePrefixes a.items (list_at a.items us) lists → AreReadable a (list_at a.items us) → count (list_at a.items us) ≡ params_at (env a) k → list ≡ get_or lists (left - 1) list
     → ((ps : Trees) (p : Tree) → without (params_at (env b) k - (place + 1)) (entry_at (env b) k).params ≡ ps ▸ p → tree_at b.items param ≡ p)
     → IsNext a b k left place us list param
@@ -204,3 +204,24 @@ next_found a b bank k left first place us list param lists js goes all some same
     let P : List Item → Type 0 = λ xs. ArePrefixes xs (list_at xs us) lists in
     let Q : ℕ → Type 0 = λ n. (ps : Trees) (p : Tree) → without (params_at (env b) k - (n + 1)) (entry_at (env b) k).params ≡ ps ▸ p → tree_at b.items param ≡ p in
     next_here a b k left place us list param lists goes (omega (arith, all, place_is)) some (subst P same firsts) readable many read (subst Q (first_is ∙ sym place_is) param_is)
+
+-- One turn of the loop: the next argument stops the reading of all, or is judged as those before it are.
+pub turn_stops : (a b : Standing) (items : List Item) (nest k left place : ℕ) (rule : RuleName) (us list param : TermId) (w w1 w2 : Account) (js : List JudgeId) (g : InferFault)
+    → IsNext a b k left place us list param → AreBegun a b nest rule (entry_at (env a) k).params (list_at a.items us) left w w1 js → count (list_at a.items us) ≡ params_at (env a) k → 0 < left
+    → ((vs : Trees) (v : Tree) → list_at b.items list ≡ vs ▸ v → Stops items (next_argument (env b) (count b.context) (part_reading nest (env b) b.context) rule (tree_at b.items param) vs v) g w1 w2)
+    → Stops items (arguments (env a) (count a.context) (part_reading nest (env a) a.context) rule (entry_at (env a) k).params (list_at a.items us)) g w w2
+turn_stops a b items nest k left place rule us list param w w1 w2 js g next begun many some h =
+    let P : Tree → Type 0 = λ x. Stops items (next_argument (env b) (count b.context) (part_reading nest (env b) b.context) rule x next.arguments.before next.arguments.last) g w1 w2 in
+    begun_stops a b items nest rule (entry_at (env a) k).params (list_at a.items us) left (left - 1) w w1 w2 js next.params.before next.arguments.before next.params.last next.arguments.last g
+    begun many (omega (arith, some)) next.params.is next.arguments.is (subst P next.wanted (h next.arguments.before next.arguments.last next.ends))
+
+pub turn_more : (a b c : Standing) (nest k left place : ℕ) (rule : RuleName) (us list param : TermId) (w w1 w2 : Account) (js : List JudgeId) (j : JudgeId)
+    → IsNext a b k left place us list param → AreBegun a b nest rule (entry_at (env a) k).params (list_at a.items us) left w w1 js → 0 < left → Continues b c → w2.left ≤ w1.left
+    → ((vs : Trees) (v : Tree) → list_at b.items list ≡ vs ▸ v
+    → IsSuited b c (next_argument (env b) (count b.context) (part_reading nest (env b) b.context) rule (tree_at b.items param) vs v) v (put (tree_at b.items param) vs) w1 w2 j)
+    → AreBegun a c nest rule (entry_at (env a) k).params (list_at a.items us) (left - 1) w w2 (js ++ j ∷ [])
+turn_more a b c nest k left place rule us list param w w1 w2 js j next begun some goes most h =
+    let P : Tree → Type 0 = λ x. IsSuited b c (next_argument (env b) (count b.context) (part_reading nest (env b) b.context) rule x next.arguments.before next.arguments.last) next.arguments.last
+    (put x next.arguments.before) w1 w2 j in
+    begun_more a b c nest rule (entry_at (env a) k).params (list_at a.items us) left (left - 1) w w1 w2 js j next.params.before next.arguments.before next.params.last next.arguments.last
+    begun (omega (arith, some)) next.params.is next.arguments.is goes most (subst P next.wanted (h next.arguments.before next.arguments.last next.ends))

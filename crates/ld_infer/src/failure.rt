@@ -132,7 +132,7 @@ pub enum InferFault {
     Refused(Failure),
     #[error("the check stops")]
     Stop(Stop),
-    /// A head form or a comparison is wanted, or an instance has arguments.
+    /// A head form or a comparison is wanted.
     #[error("the form is not built")]
     NotBuilt,
 }

@@ -311,7 +311,16 @@ fn application(
 {
     let function = function_type(alloc, theory, f, nest, job)?;
     let asked = (RuleName::Appl, 2);
-    let argument = argument_judgement(alloc, theory, PathStep::Arg, asked, function.domain, u, nest, job)?;
+    let argument = argument_judgement(
+        alloc,
+        theory,
+        PathStep::Arg,
+        asked,
+        function.domain,
+        u,
+        nest,
+        job,
+    )?;
     let of = theory.instantiate(function.range, &[u])?;
     let judge = theory.conclude(t, of, Step::Appl(function.judge, argument))?;
     Ok(Typed {

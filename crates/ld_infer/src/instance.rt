@@ -120,7 +120,16 @@ fn argument(
         unreachable!();
     };
     let wanted = theory.instantiate_list(param, before)?;
-    argument_judgement(alloc, theory, PathStep::Nth(asked.1), asked, wanted, u, nest, job)
+    argument_judgement(
+        alloc,
+        theory,
+        PathStep::Nth(asked.1),
+        asked,
+        wanted,
+        u,
+        nest,
+        job,
+    )
 }
 
 // The lists that are left of a list without its last trees, the list itself first. The empty list isn't among them.

@@ -12,7 +12,12 @@ use crate::theory::Theory;
 use std::alloc::Global;
 
 // A refusal of the term itself.
-pub(crate) fn refusal(alloc: Global, theory: &Theory, asked: (RuleName, u32), why: Why) -> InferFault
+pub(crate) fn refusal(
+    alloc: Global,
+    theory: &Theory,
+    asked: (RuleName, u32),
+    why: Why,
+) -> InferFault
     requires { count theory.now.context < 2 ^ 32 }
     ensures { (items : List Item) → IsRefusedBy items (reading.refusal asked (count theory.now.context) (reason_of items why)) result }
 {

@@ -33,7 +33,7 @@ use Rattle.ld_infer.proofs.Inferring.{function_typed, argument_typed, applicatio
 use Rattle.ld_infer.proofs.Around.{IsAround, around, range_refused, product_typed, body_stopped, abstraction_high, abstraction_typed, abstraction_follows, outer_tree, inner_context, sort_outside}
 use Rattle.ld_infer.proofs.Prefixing.{cons_parts}
 use Rattle.ld_infer.proofs.Instances.{instance_parts, entry_here, instance_task, instance_refused, instance_high, instance_ready, instance_typed}
-use Rattle.ld_infer.proofs.Judging.{next_high, suits_next, but, AreBegun, begun_none, begun_stops, begun_more, next_found}
+use Rattle.ld_infer.proofs.Judging.{next_high, suits_next, but, AreBegun, begun_none, next_found, turn_stops, turn_more}
 use Rattle.ld_infer.proofs.+infer.Goals as goal
 
 -- The reading of a term, by its form.
@@ -574,7 +574,6 @@ instance::arguments-argument-requires t c =
 pub instance::arguments-returns-in_err-judge-clause-answer : goal.instance::arguments-returns-in_err-judge-clause-answer
 instance::arguments-returns-in_err-judge-clause-answer t c =
     let a = c.args.theory.now in
-    let b = c.loop-left.theory in
     let e = c.argument.new.theory in
     let params = (entry_at (env a) c.args.k).params in
     let us = list_at a.items c.args.us in
@@ -583,11 +582,10 @@ instance::arguments-returns-in_err-judge-clause-answer t c =
     (omega (arith, c.len.ensures)) (omega (arith, c.len-in-loop-left.ensures)) c.parameter-param.ensures.is in
     let p = err_from_is_err_and c.from_residual-in_err-judge.result c.from_residual-in_err-judge.ensures.1 in
     let f = c.in_err-judge.field-0.0 in
-    let P : Tree → Type 0 = λ x. Stops e.items (next_argument (env b) (count b.context) (part_reading c.args.nest (env b) b.context) c.args.rule x next.arguments.before next.arguments.last) f c.loop-left.job c.argument.new.job in
-    at_fault (λ r. JudgesArguments a e (arguments (env a) (count a.context) (part_reading c.args.nest (env a) a.context) c.args.rule params us) params us c.args.job.now c.argument.new.job r) c.from_residual-in_err-judge.result f p.0 p.1 p.2
-    (begun_stops a b e.items c.args.nest c.args.rule params us c.loop-left.left (c.loop-left.left - 1) c.args.job.now c.loop-left.job c.argument.new.job c.loop-left.judges.items next.params.before next.arguments.before
-    next.params.last next.arguments.last f c.loop-left.invariant c.requires.as_many (omega (arith, c.loop-left-test.true)) next.params.is next.arguments.is
-    (subst P next.wanted (c.in_err-judge.ensures.answer next.arguments.before next.arguments.last next.ends)))
+    at_fault (λ r. JudgesArguments a e (arguments (env a) (count a.context) (part_reading c.args.nest (env a) a.context) c.args.rule params us) params us c.args.job.now c.argument.new.job r)
+    c.from_residual-in_err-judge.result f p.0 p.1 p.2
+    (turn_stops a c.loop-left.theory e.items c.args.nest c.args.k c.loop-left.left c.len-in-loop-left.result c.args.rule c.args.us c.index.result.now c.parameter-param.result c.args.job.now c.loop-left.job c.argument.new.job
+    c.loop-left.judges.items f next c.loop-left.invariant c.requires.as_many (omega (arith, c.loop-left-test.true)) c.in_err-judge.ensures.answer)
 
 pub instance::arguments-returns-in_err-judge-clause-continues : goal.instance::arguments-returns-in_err-judge-clause-continues
 instance::arguments-returns-in_err-judge-clause-continues t c = continues_trans c.args.theory.now c.loop-left.theory c.argument.new.theory c.loop-left.invariant.continues c.argument.ensures.continues
@@ -598,22 +596,16 @@ instance::arguments-returns-in_err-judge-clause-most t c = omega (arith, c.loop-
 pub instance::arguments-loop-left-preserved : goal.instance::arguments-loop-left-preserved
 instance::arguments-loop-left-preserved t c =
     let a = c.args.theory.now in
-    let b = c.loop-left.theory in
     let e = c.argument.new.theory in
-    let params = (entry_at (env a) c.args.k).params in
-    let us = list_at a.items c.args.us in
+    let j = c.in_ok-judge.judge in
     let next = next_found c.args.theory.now c.loop-left.theory c.bank.result.now c.args.k c.loop-left.left c.len.result c.len-in-loop-left.result c.args.us c.index.result.now c.parameter-param.result c.in_ok-lists.lists.items
     c.loop-left.judges.items c.loop-left.invariant.continues c.loop-left.invariant.all (omega (arith, c.loop-left-test.true)) c.bank.ensures c.in_ok-lists.ensures c.requires.readable c.requires.as_many c.index.ensures
     (omega (arith, c.len.ensures)) (omega (arith, c.len-in-loop-left.ensures)) c.parameter-param.ensures.is in
-    let j = c.in_ok-judge.judge in
-    let P : Tree → Type 0 = λ x. IsSuited b e (next_argument (env b) (count b.context) (part_reading c.args.nest (env b) b.context) c.args.rule x next.arguments.before next.arguments.last) next.arguments.last
-    (put x next.arguments.before) c.loop-left.job c.argument.new.job j in
-    let Q : List JudgeId → Type 0 = λ js. AreBegun a e c.args.nest c.args.rule params us (c.loop-left.left - 1) c.args.job.now c.argument.new.job js in
+    let P : List JudgeId → Type 0 = λ js. AreBegun a e c.args.nest c.args.rule (entry_at (env a) c.args.k).params (list_at a.items c.args.us) (c.loop-left.left - 1) c.args.job.now c.argument.new.job js in
     let pushed : c.push.new.self.items ≡ c.loop-left.judges.items ++ j ∷ [] = grind (arith, common_steps) in
-    subst Q (sym pushed)
-    (begun_more a b e c.args.nest c.args.rule params us c.loop-left.left (c.loop-left.left - 1) c.args.job.now c.loop-left.job c.argument.new.job c.loop-left.judges.items j next.params.before next.arguments.before
-    next.params.last next.arguments.last c.loop-left.invariant (omega (arith, c.loop-left-test.true)) next.params.is next.arguments.is c.argument.ensures.continues c.argument.ensures.most
-    (subst P next.wanted (c.in_ok-judge.ensures.answer next.arguments.before next.arguments.last next.ends)))
+    subst P (sym pushed)
+    (turn_more a c.loop-left.theory e c.args.nest c.args.k c.loop-left.left c.len-in-loop-left.result c.args.rule c.args.us c.index.result.now c.parameter-param.result c.args.job.now c.loop-left.job c.argument.new.job
+    c.loop-left.judges.items j next c.loop-left.invariant (omega (arith, c.loop-left-test.true)) c.argument.ensures.continues c.argument.ensures.most c.in_ok-judge.ensures.answer)
 
 pub instance::arguments-returns-in_err-map_err-clause-continues : goal.instance::arguments-returns-in_err-map_err-clause-continues
 instance::arguments-returns-in_err-map_err-clause-continues t c = continues_trans c.args.theory.now c.loop-left.theory c.argument.new.theory c.loop-left.invariant.continues c.argument.ensures.continues
