@@ -6,11 +6,13 @@ mod failure;
 mod inference;
 mod instance;
 mod job;
+mod keeping;
 mod leaf;
 mod refusal;
 #[cfg(test)]
 mod tests;
 mod theory;
+mod variable;
 
 pub use failure::{Failure, InferFault, Path, PathStep, RuleName, Why};
 pub use inference::{Typed, infer, sort_of};

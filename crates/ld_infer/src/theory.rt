@@ -22,9 +22,9 @@ struct Level {
 
 // A variable of the context: its type, and a judgement for a sort of the type in the context before it.
 #[derive(Clone, Copy, Debug)]
-struct Variable {
-    of: TermId,
-    sort: JudgeId,
+pub(crate) struct Variable {
+    pub(crate) of: TermId,
+    pub(crate) sort: JudgeId,
 }
 
 /// The type of a variable, with a judgement of the variable and its type and one of the type and its sort, both in the
@@ -233,7 +233,7 @@ impl Theory {
     }
 
     // The same in the context without so many of its last variables.
-    fn conclude_without(
+    pub(crate) fn conclude_without(
         &mut self,
         out: u32,
         term: TermId,
@@ -258,63 +258,8 @@ impl Theory {
         self.deriv.emit(&self.bank, judge, step)
     }
 
-    /// The type of a variable of the context, by the rules for variables and weakening. Index 0 is the last variable.
-    pub fn variable(&mut self, i: u32) -> Result<VariableTyped, TermFault>
-        requires there { i < count self.old.context }
-        requires small { IsSmall (One (Var i)) }
-        ensures typed { IfOk result (λ v. IsVariableTyped self.old self.new i v) }
-        ensures high { result ≡ Err TermFault.High → IsHighIn self.old.context i }
-        ensures continues { Continues self.old self.new }
-    {
-        let mut typed = self.own_variable(i)?;
-        for index in 0..i {
-            typed = self.weaken_variable(i - 1 - index, index + 1, typed)?;
-        }
-        Ok(typed)
-    }
-
-    // The last variable of the context without so many, by the rule for variables.
-    fn own_variable(&mut self, out: u32) -> Result<VariableTyped, TermFault>
-        requires there { out < count self.old.context }
-        ensures typed { IfOk result (λ v. IsTypedIn self.new out 0 v) }
-        ensures high { result ≡ Err TermFault.High → IsHighIn (without out self.old.context) 0 }
-        ensures continues { Continues self.old self.new }
-    {
-        let Ok(last) = self.last_variable(out) else {
-            return Err(TermFault::Memory);
-        };
-        let lifted = self.lift_type(out, last, last)?;
-        self.type_variable(out, 0, lifted, Step::Var(last.sort))
-    }
-
-    // A variable that was typed in the context before the last one of those without so many, by the rule for weakening.
-    fn weaken_variable(
-        &mut self,
-        out: u32,
-        index: u32,
-        typed: VariableTyped,
-    ) -> Result<VariableTyped, TermFault>
-        requires there { out < count self.old.context }
-        requires some { 0 < index }
-        requires small { IsSmall (One (Var index)) }
-        requires typed { IsTypedIn self.old (out + 1) (index - 1) typed }
-        ensures typed { IfOk result (λ v. IsTypedIn self.new out index v) }
-        ensures high { result ≡ Err TermFault.High → IsHighIn (without out self.old.context) index }
-        ensures continues { Continues self.old self.new }
-    {
-        let Ok(last) = self.last_variable(out) else {
-            return Err(TermFault::Memory);
-        };
-        let inner = Variable {
-            of: typed.of,
-            sort: typed.sort,
-        };
-        let lifted = self.lift_type(out, inner, last)?;
-        self.type_variable(out, index, lifted, Step::Weak(typed.judge, last.sort))
-    }
-
     // The last variable of the context without so many, with the judgement of its type over all entries.
-    fn last_variable(&mut self, out: u32) -> Result<Variable, NoMemory>
+    pub(crate) fn last_variable(&mut self, out: u32) -> Result<Variable, NoMemory>
         requires there { out < count self.old.context }
         ensures ends { IfOk result (λ v. EndsWith self.new out v) }
         ensures continues { Continues self.old self.new }
@@ -332,33 +277,8 @@ impl Theory {
         Ok(last)
     }
 
-    // A type of the context before the variable `last`, which ends the one without so many, led into that one.
-    fn lift_type(
-        &mut self,
-        out: u32,
-        inner: Variable,
-        last: Variable,
-    ) -> Result<Variable, TermFault>
-        requires there { out < count self.old.context }
-        requires last { EndsWith self.old out last }
-        requires term { IsTermAt self.old.items inner.of }
-        requires sort { KnowsSortIn self.old (without (out + 1) self.old.context) inner.sort (tree_at self.old.items inner.of) }
-        ensures typed { IfOk result (λ v. IsTypeIn self.new out v) }
-        ensures lifted { IfOk result (λ v. tree_at self.new.items v.of ≡ lift (tree_at self.old.items inner.of) 1 0) }
-        ensures high { result ≡ Err TermFault.High → ¬ IsSmall (One (lift (tree_at self.old.items inner.of) 1 0)) }
-        ensures continues { Continues self.old self.new }
-    {
-        let of = self.lift(inner.of)?;
-        let sort_term = self.type_of(inner.sort);
-        let step = Step::Weak(inner.sort, last.sort);
-        let Ok(sort) = self.conclude_without(out, of, sort_term, step) else {
-            return Err(TermFault::Memory);
-        };
-        Ok(Variable { of, sort })
-    }
-
     // A term, below one more variable.
-    fn lift(&mut self, t: TermId) -> Result<TermId, TermFault>
+    pub(crate) fn lift(&mut self, t: TermId) -> Result<TermId, TermFault>
         requires { IsTermAt self.old.items t }
         ensures tree { IfOk result (λ r. StandsFor self.new.items r (lift (tree_at self.old.items t) 1 0)) }
         ensures small { IfOk result (λ r. IsSmall (item_at self.new.items r)) }
@@ -368,34 +288,6 @@ impl Theory {
         // each term of a bank is small
         let _height = self.bank.height(t);
         self.bank.lift(t, 1, 0)
-    }
-
-    // Keeps that a variable has this type, in the context without so many.
-    fn type_variable(
-        &mut self,
-        out: u32,
-        index: u32,
-        of: Variable,
-        step: Step,
-    ) -> Result<VariableTyped, TermFault>
-        requires there { out < count self.old.context }
-        requires small { IsSmall (One (Var index)) }
-        requires of { IsTypeIn self.old out of }
-        requires found { type_in (without out self.old.context) index ≡ Some (tree_at self.old.items of.of) }
-        requires follows { Follows (known self.old) (judged_in self.old (without out self.old.context) (Var index) (tree_at self.old.items of.of)) step }
-        ensures typed { IfOk result (λ v. IsTypedIn self.new out index v) }
-        ensures high { result ≢ Err TermFault.High }
-        ensures continues { Continues self.old self.new }
-    {
-        let term = self.add(Node::Var(index))?;
-        let Ok(judge) = self.conclude_without(out, term, of.of, step) else {
-            return Err(TermFault::Memory);
-        };
-        Ok(VariableTyped {
-            of: of.of,
-            judge,
-            sort: of.sort,
-        })
     }
 
     /// Puts a variable of the type `of` at the end of the context. `sort` is a judgement for a sort of the type.
@@ -460,61 +352,8 @@ impl Theory {
         Ok(())
     }
 
-    /// Keeps a judgement of the context as the entry of a line under a name that is free. The context's types are the
-    /// entry's parameters.
-    pub fn keep_line(
-        &mut self,
-        alloc: Global,
-        name: &[u8],
-        body: TermId,
-        of: TermId,
-        judge: JudgeId,
-    ) -> Result<u32, NoMemory>
-        requires body { IsTermAt self.old.items body }
-        requires of { IsTermAt self.old.items of }
-        requires judge { Knows (known self.old) judge (here self.old (tree_at self.old.items body) (tree_at self.old.items of)) }
-        requires free { IsFree (known self.old) name.now }
-        requires room { length (env self.old) + 1 < 2 ^ 32 }
-        ensures number { IfOk result (λ k. k ≡ length (env self.old)) }
-        ensures ok { OnOk result (AddsEntry self.old self.new (line_entry name.now (here self.old (tree_at self.old.items body) (tree_at self.old.items of)))) }
-        ensures goes { Goes self.old self.new }
-        ensures err { OnErr result (self.new ≡ self.old) }
-    {
-        let entry = Entry {
-            params: self.parameters(alloc)?,
-            body: Some(body),
-            of,
-        };
-        self.keep(alloc, name, entry, judge, false)
-    }
-
-    /// Keeps a judgement of the context, whose type is a sort, as a primitive under a name that is free.
-    pub fn keep_primitive(
-        &mut self,
-        alloc: Global,
-        name: &[u8],
-        of: TermId,
-        judge: JudgeId,
-    ) -> Result<u32, NoMemory>
-        requires of { IsTermAt self.old.items of }
-        requires judge { KnowsSort self.old judge (tree_at self.old.items of) }
-        requires free { IsFree (known self.old) name.now }
-        requires room { length (env self.old) + 1 < 2 ^ 32 }
-        ensures number { IfOk result (λ k. k ≡ length (env self.old)) }
-        ensures ok { OnOk result (AddsEntry self.old self.new (primitive_entry name.now (here self.old (tree_at self.old.items of) Star))) }
-        ensures goes { Goes self.old self.new }
-        ensures err { OnErr result (self.new ≡ self.old) }
-    {
-        let entry = Entry {
-            params: self.parameters(alloc)?,
-            body: None,
-            of,
-        };
-        self.keep(alloc, name, entry, judge, true)
-    }
-
     // The types of the context's variables.
-    fn parameters(&self, alloc: Global) -> Result<Terms, NoMemory>
+    pub(crate) fn parameters(&self, alloc: Global) -> Result<Terms, NoMemory>
         ensures types { IfOk result (λ ts. listed self.now.items Nil ts ≡ self.now.context) }
         ensures terms { IfOk result (λ ts. All (IsTermAt self.now.items) ts) }
     {
@@ -526,7 +365,7 @@ impl Theory {
     }
 
     // Keeps a judgement as an entry, in the derivation and under its name.
-    fn keep(
+    pub(crate) fn keep(
         &mut self,
         alloc: Global,
         name: &[u8],

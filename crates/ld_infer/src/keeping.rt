@@ -1,0 +1,69 @@
+//! How a theory keeps judgements of its context as entries.
+ghost use Rattle.std.specs.Prelude.{◌≡◌, ◌<◌, ◌+◌, ◌^◌, length, IfOk, OnOk, OnErr};
+ghost use Rattle.ld_terms.specs.Tree.{Star};
+ghost use Rattle.ld_terms.specs.Bank.{tree_at, IsTermAt};
+ghost use Rattle.ld_terms.specs.Known.{line_entry, primitive_entry, IsFree};
+ghost use Rattle.ld_record.specs.Growth.{Knows};
+ghost use Rattle.ld_infer.specs.Standing.{known, env, here, KnowsSort, AddsEntry, Goes};
+
+use crate::theory::Theory;
+use fb_base::NoMemory;
+use ld_env::Entry;
+use ld_record::JudgeId;
+use ld_terms::TermId;
+use std::alloc::Global;
+
+impl Theory {
+    /// Keeps a judgement of the context as the entry of a line under a name that is free. The context's types are the
+    /// entry's parameters.
+    pub fn keep_line(
+        &mut self,
+        alloc: Global,
+        name: &[u8],
+        body: TermId,
+        of: TermId,
+        judge: JudgeId,
+    ) -> Result<u32, NoMemory>
+        requires body { IsTermAt self.old.items body }
+        requires of { IsTermAt self.old.items of }
+        requires judge { Knows (known self.old) judge (here self.old (tree_at self.old.items body) (tree_at self.old.items of)) }
+        requires free { IsFree (known self.old) name.now }
+        requires room { length (env self.old) + 1 < 2 ^ 32 }
+        ensures number { IfOk result (λ k. k ≡ length (env self.old)) }
+        ensures ok { OnOk result (AddsEntry self.old self.new (line_entry name.now (here self.old (tree_at self.old.items body) (tree_at self.old.items of)))) }
+        ensures goes { Goes self.old self.new }
+        ensures err { OnErr result (self.new ≡ self.old) }
+    {
+        let entry = Entry {
+            params: self.parameters(alloc)?,
+            body: Some(body),
+            of,
+        };
+        self.keep(alloc, name, entry, judge, false)
+    }
+
+    /// Keeps a judgement of the context, whose type is a sort, as a primitive under a name that is free.
+    pub fn keep_primitive(
+        &mut self,
+        alloc: Global,
+        name: &[u8],
+        of: TermId,
+        judge: JudgeId,
+    ) -> Result<u32, NoMemory>
+        requires of { IsTermAt self.old.items of }
+        requires judge { KnowsSort self.old judge (tree_at self.old.items of) }
+        requires free { IsFree (known self.old) name.now }
+        requires room { length (env self.old) + 1 < 2 ^ 32 }
+        ensures number { IfOk result (λ k. k ≡ length (env self.old)) }
+        ensures ok { OnOk result (AddsEntry self.old self.new (primitive_entry name.now (here self.old (tree_at self.old.items of) Star))) }
+        ensures goes { Goes self.old self.new }
+        ensures err { OnErr result (self.new ≡ self.old) }
+    {
+        let entry = Entry {
+            params: self.parameters(alloc)?,
+            body: None,
+            of,
+        };
+        self.keep(alloc, name, entry, judge, true)
+    }
+}
