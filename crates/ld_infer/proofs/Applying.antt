@@ -1,5 +1,5 @@
 -- The rows for applications and instances: how the reading ends where a part ends it, and what it gives.
-use Rattle.std.proofs.Common.{◌≡◌, false, List, Option, Some, refl, sym, ◌∙◌, subst}
+use Rattle.std.proofs.Common.{◌≡◌, false, List, Option, Some, sym, subst}
 use Rattle.ld_terms.specs.Tree.{Tree, Trees, Nil, ◌▸◌, count}
 use Rattle.ld_terms.specs.Item.{Item, One, IsSmall}
 use Rattle.ld_terms.specs.Put.{put}
@@ -10,12 +10,11 @@ use Rattle.ld_infer.specs.declared.failure.InferFault.{InferFault}
 use Rattle.ld_infer.specs.declared.failure.InferFault.TheVariants as fault
 use Rattle.ld_infer.specs.declared.failure.RuleName.TheVariants.{Appl}
 use Rattle.ld_infer.specs.declared.failure.PathStep.TheVariants.{Arg}
-use Rattle.ld_infer.specs.Task.{Task, Gives, NotBuilt, Ends, ◌>>=◌, ◌>>◌, gives, formed}
+use Rattle.ld_infer.specs.Task.{Task, Gives}
 use Rattle.ld_infer.specs.Account.{Account, Comes}
 use Rattle.ld_infer.specs.Infers.{Stops, stop_of}
-use Rattle.ld_infer.proofs.Accounts.{comes_then, comes_ended}
+use Rattle.ld_infer.proofs.Accounts.{comes_then}
 use Rattle.ld_infer.proofs.Stopping.{stops_first, stops_then}
-use Rattle.ld_infer.proofs.Sorts.{gives_now, not_built_now}
 use Rattle.ld_infer.proofs.Formed.{type_formed, formed_stops}
 use Rattle.ld_infer.specs.Reading.{Asked, Refusal, Found, found, function_reading, argument_reading, application_reading, arguments, instance_rule, instance_reading}
 

@@ -1,5 +1,5 @@
 -- The answers for `*` and for an instance, from what the calls of a theory leave.
-use Rattle.std.proofs.Common.{◌≡◌, ◌<◌, ◌+◌, ◌-◌, [], ℕ, suc, false, List, length, take, get_or, Option, Some, None, slice_get, refl, ap, sym, ◌∙◌, subst, arith}
+use Rattle.std.proofs.Common.{◌≡◌, ◌<◌, ◌+◌, ◌-◌, [], ℕ, suc, false, List, length, get_or, Option, Some, None, slice_get, refl, ap, sym, ◌∙◌, subst, arith}
 use Rattle.std.specs.List.{AllByRecursion}
 use Rattle.std.proofs.lemmas.Option.{get_or_from_slice_get}
 use Rattle.ld_terms.specs.Tree.{Tree, Trees, Star, Box, Const, Nil, ◌▸◌, count}
@@ -11,7 +11,7 @@ use Rattle.ld_terms.specs.declared.bank.TermFault.{TermFault}
 use Rattle.ld_terms.specs.declared.bank.TermFault.TheVariants as term
 use Rattle.ld_terms.specs.Entry as named
 use Rattle.ld_terms.specs.Entry.{EntryAt, IsScoped}
-use Rattle.ld_terms.specs.Named.{IsNamed, AreNamed, IsWellFormed}
+use Rattle.ld_terms.specs.Named.{IsNamed, IsWellFormed}
 use Rattle.ld_terms.specs.Record.{params_at}
 use Rattle.ld_terms.specs.Derivable as derivable
 use Rattle.ld_terms.specs.Known.{Judgement, no_judgement, primitive_entry, IsNode, JudgeArguments}

@@ -1,6 +1,5 @@
 -- The arguments of an instance, read one after another: what is said of those so far, and of all.
 use Rattle.std.proofs.Common.{◌≡◌, ◌<◌, ◌≤◌, ◌+◌, ◌-◌, ◌++◌, ◌∷◌, [], ℕ, zero, suc, List, length, get_or, Result, Ok, Err, refl, ap, sym, ◌∙◌, subst, arith}
-use Rattle.std.specs.List.{AllByRecursion}
 use Rattle.std.proofs.lemmas.List.{length_push}
 use Rattle.ld_terms.specs.Tree.{Tree, Trees, Nil, ◌▸◌, count}
 use Rattle.ld_terms.specs.Item.{Item, One, IsSmall}
@@ -9,7 +8,7 @@ use Rattle.ld_terms.specs.Entry.{Env}
 use Rattle.ld_terms.specs.Bank.{tree_at, list_at, IsListAt}
 use Rattle.ld_terms.specs.Record.{params_at}
 use Rattle.ld_terms.specs.declared.bank.TermId.{TermId}
-use Rattle.ld_terms.specs.Known.{Judgement, IsNode, JudgeArguments}
+use Rattle.ld_terms.specs.Known.{Judgement}
 use Rattle.ld_terms.specs.declared.bank.TermFault.{TermFault}
 use Rattle.ld_terms.specs.declared.bank.TermFault.TheVariants as term
 use Rattle.ld_record.specs.declared.record.JudgeId.{JudgeId}
@@ -17,11 +16,10 @@ use Rattle.ld_record.specs.Follows.{numbers_of, entry_at}
 use Rattle.ld_record.specs.Growth.{Knows}
 use Rattle.ld_record.proofs.Judged.{judge_none, live_more, judges_more, live_later, judges_later}
 use Rattle.ld_infer.specs.declared.failure.RuleName.{RuleName}
-use Rattle.ld_infer.specs.declared.failure.PathStep.{PathStep}
 use Rattle.ld_infer.specs.declared.failure.PathStep.TheVariants.{Nth}
 use Rattle.ld_infer.specs.declared.failure.InferFault.{InferFault}
 use Rattle.ld_infer.specs.declared.failure.InferFault.TheVariants as fault
-use Rattle.ld_infer.specs.Task.{Task, Gives, High, Ends, ◌>>=◌, formed}
+use Rattle.ld_infer.specs.Task.{Task, Gives, High, Ends, formed}
 use Rattle.ld_infer.specs.Account.{Account, Comes}
 use Rattle.ld_infer.specs.Reading.{Asked, Refusal, Found, part_reading, argument_reading, next_argument, arguments}
 use Rattle.ld_infer.specs.Standing.{Standing, known, env, here, without, Continues}

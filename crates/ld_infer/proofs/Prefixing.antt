@@ -1,5 +1,5 @@
 -- Lists without their last trees: the lists that an instance's arguments are read from, and the parameters for them.
-use Rattle.std.proofs.Common.{◌≡◌, ◌<◌, ◌+◌, ◌-◌, ◌++◌, ◌∷◌, [], ℕ, zero, suc, List, length, take, get_or, refl, ap, sym, ◌∙◌, subst, inl, inr, ◌⊎◌, arith}
+use Rattle.std.proofs.Common.{◌≡◌, ◌<◌, ◌+◌, ◌-◌, ◌++◌, ◌∷◌, [], ℕ, zero, suc, List, length, take, get_or, refl, ap, sym, ◌∙◌, subst, inl, inr, arith}
 use Rattle.std.proofs.lemmas.List.{length_push, get_or_push, get_or_append_left}
 use Rattle.std.proofs.lemmas.Bool.{cases_lt}
 use Rattle.ld_terms.specs.Tree.{Tree, Trees, Nil, ◌▸◌, count}
@@ -10,7 +10,7 @@ use Rattle.ld_terms.specs.declared.bank.Node.{Node}
 use Rattle.ld_terms.specs.declared.bank.Node.TheVariants as node
 use Rattle.ld_terms.specs.Named.{AreNamed}
 use Rattle.ld_terms.specs.Entry.{Env, AreScoped}
-use Rattle.ld_infer.specs.Standing.{Standing, env, Continues, without, without_last}
+use Rattle.ld_infer.specs.Standing.{Standing, Continues, without, without_last}
 use Rattle.ld_infer.specs.Infers.{AreReadable, ArePrefixes}
 use Rattle.ld_infer.proofs.Staying.{at_same}
 use Rattle.ld_infer.proofs.Nodes.{node_item}

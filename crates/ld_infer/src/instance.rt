@@ -1,5 +1,5 @@
 //! The type of an instance of an entry, and the judgements of its arguments.
-ghost use Rattle.std.specs.Prelude.{◌≡◌, ◌<◌, ◌≤◌, ◌+◌, ◌-◌, ◌^◌, ℕ, List, length, slice_get, slice_index, IfOk, OnErr};
+ghost use Rattle.std.specs.Prelude.{◌≡◌, ◌<◌, ◌≤◌, ◌+◌, ◌-◌, ◌^◌, List, length, slice_get, IfOk};
 ghost use Rattle.ld_terms.specs.Tree.{Tree, Trees, Const, ◌▸◌, count};
 ghost use Rattle.ld_terms.specs.Put.{put};
 ghost use Rattle.ld_terms.specs.Item.{Item};

@@ -1,5 +1,5 @@
 //! Refusals, and how those of parts are told.
-ghost use Rattle.std.specs.Prelude.{◌≡◌, ◌<◌, ◌-◌, ◌^◌, List};
+ghost use Rattle.std.specs.Prelude.{◌<◌, ◌-◌, ◌^◌, List};
 ghost use Rattle.ld_terms.specs.Tree.{count};
 ghost use Rattle.ld_terms.specs.Item.{Item};
 ghost use Rattle.ld_infer.specs.Reading as reading;

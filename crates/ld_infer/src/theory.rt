@@ -1,8 +1,8 @@
 //! A theory: an environment with its derivation, and a context.
-ghost use Rattle.std.specs.Prelude.{◌≡◌, ◌≢◌, ◌<◌, ◌≤◌, ◌+◌, ◌-◌, ◌^◌, [], length, Some, IfOk, OnOk, OnErr};
-ghost use Rattle.ld_terms.specs.Tree.{Tree, Star, Box, Var, Nil, count};
+ghost use Rattle.std.specs.Prelude.{◌≡◌, ◌<◌, ◌≤◌, ◌+◌, ◌-◌, ◌^◌, [], length, IfOk, OnOk, OnErr};
+ghost use Rattle.ld_terms.specs.Tree.{Tree, Star, Box, Nil, count};
 ghost use Rattle.ld_terms.specs.Bank.{tree_at, list_at, item_of, HasParts, IsTermAt, IsListAt, StandsFor, Holds};
-ghost use Rattle.ld_terms.specs.Known.{nothing, judgement_at, line_entry, primitive_entry, IsFree};
+ghost use Rattle.ld_terms.specs.Known.{nothing, judgement_at};
 ghost use Rattle.ld_terms.specs.Named.{IsWellFormed};
 ghost use Rattle.ld_env.specs.Entries.{entry_of, env_of, IsLiveEntry, AreLive};
 
@@ -73,10 +73,8 @@ impl Theory {
     ghost use Rattle.ld_record.specs.Kept.{IsSound, FitsEntry, entry_by};
     ghost use Rattle.ld_record.specs.Growth.{Knows, Adds};
     ghost use Rattle.ld_record.specs.Follows.{Follows};
-    ghost use Rattle.ld_infer.specs.Reading.{type_in};
-    ghost use Rattle.ld_infer.specs.Infers.{IsVariableTyped};
     ghost use Rattle.ld_infer.specs.Standing.{Standing, known, env, here, Continues, KnowsSort, Enters, AddsEntry, AddsFlag, Goes, without, without_last};
-    ghost use Rattle.ld_infer.specs.Variables.{judged_in, KnowsSortIn, EndsWith, IsTypeIn, IsTypedIn, IsHighIn};
+    ghost use Rattle.ld_infer.specs.Variables.{judged_in, EndsWith};
 
     /// The empty environment and context.
     pub fn new(alloc: Global) -> Result<Theory, NoMemory>

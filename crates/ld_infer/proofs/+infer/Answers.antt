@@ -3,7 +3,7 @@ use Rattle.std.specs.Prelude.{is_some}
 use Rattle.std.proofs.lemmas.Bool.{false≢true}
 use Rattle.std.proofs.lemmas.Grind.{common_steps}
 use Rattle.std.proofs.lemmas.Result.{err_from_is_err_and}
-use Rattle.ld_terms.specs.Tree.{Tree, Trees, Star, Box, Var, App, Lam, Pi, Const, ◌▸◌, count}
+use Rattle.ld_terms.specs.Tree.{Trees, Star, Box, Var, App, Lam, Pi, Const, count}
 use Rattle.ld_terms.specs.Item.{Item, One, IsSmall, tree}
 use Rattle.ld_terms.specs.Put.{put}
 use Rattle.ld_terms.specs.Entry.{Env}
@@ -21,7 +21,7 @@ use Rattle.ld_infer.specs.Task.{Gives}
 use Rattle.ld_infer.specs.Account.{Comes}
 use Rattle.ld_infer.specs.Reading.{Types, SortOf, read_within, part_reading, again_unless, refused, refusal, NoType, BoxBody, Again, found, product_reading, abstraction_reading, application_reading, body_reading, next_argument, arguments}
 use Rattle.ld_infer.specs.Standing.{env, without}
-use Rattle.ld_infer.specs.Infers.{Infers, InfersSort, TypesAgain, InfersBody, Suits, IsSuited, JudgesArguments, AreJudged, ArePrefixes, IsInstanceStep, Stops, IsRefusedBy, IsToldAs}
+use Rattle.ld_infer.specs.Infers.{Infers, InfersSort, TypesAgain, InfersBody, Suits, JudgesArguments, AreJudged, ArePrefixes, IsInstanceStep, Stops, IsRefusedBy, IsToldAs}
 use Rattle.ld_infer.proofs.Stopping.{stops_within, gives_within, refused_by}
 use Rattle.ld_infer.proofs.Going.{continues_trans, term_stays, tree_stays}
 use Rattle.ld_infer.proofs.Nodes.{node_item, node_tree, sort_node, sort_tested, no_sort_node, no_box_node, no_product_node, same_items}

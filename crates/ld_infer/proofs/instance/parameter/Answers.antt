@@ -1,4 +1,4 @@
-use Rattle.std.proofs.Common.{rules, ◌<◌, ◌*◌, length, Fits, get_or, arith, subst, sym, ap, ◌≡◌, List}
+use Rattle.std.proofs.Common.{rules, ◌<◌, length, get_or, arith, subst, sym, ap, ◌≡◌, List}
 use Rattle.ld_terms.specs.Bank.{tree_at, IsTermAt}
 use Rattle.ld_terms.specs.declared.bank.TermId.{TermId}
 use Rattle.ld_infer.proofs.Instances.{IsEntry, entry_here, parameter_there, parameter_is}
