@@ -74,6 +74,13 @@ impl Scope {
         self.flags.len() as u32
     }
 
+    /// How many variables there are: the open binders and the open flags.
+    pub fn variable_count(&self) -> u32
+        ensures { result ≡ length self.now.binders + length self.now.flags }
+    {
+        (self.binders.len() + self.flags.len()) as u32
+    }
+
     /// The name of an open flag, which are counted from 0 at the outermost.
     pub fn flag_name(&self, level: u32) -> &[u8]
         requires { level < length self.now.flags }

@@ -93,6 +93,7 @@ fn a_flag_of_the_same_name_is_another(rt: HostRuntime) -> Result<(), Fail> {
 #[test]
 fn open_flags_are_implied(rt: HostRuntime) -> Result<(), Fail> {
     let (env, scope) = book(&rt, rt.alloc())?;
+    assert_eq!(rt; scope.variable_count(), 2);
     expect(&rt, &env, &scope, b"k", 0, constant(0, 2));
     expect(&rt, &env, &scope, b"k", 1, constant(0, 1));
     expect(&rt, &env, &scope, b"k", 2, constant(0, 0));
@@ -145,6 +146,7 @@ fn the_innermost_binder_is_found(rt: HostRuntime) -> Result<(), Fail> {
     scope.bind(Some(b"x"))?;
     scope.bind(Some(b"x"))?;
     scope.bind(None)?;
+    assert_eq!(rt; scope.variable_count(), 3);
     expect(&rt, &env, &scope, b"x", 0, Ok(Found::Var(1)));
     scope.unbind();
     scope.unbind();
