@@ -1,5 +1,5 @@
 -- What an item adds, and what its judging costs.
-use Rattle.std.proofs.Common.{◌≡◌, ◌<◌, ◌≤◌, ℕ, List, [], ◌∷◌, ◌++◌, length, map, Ok, Err, refl, sym, ap, subst, ◌∙◌, arith, ⊎_elim}
+use Rattle.std.proofs.Common.{◌≡◌, ◌<◌, ◌≤◌, ◌+◌, ℕ, List, [], ◌∷◌, ◌++◌, length, map, Ok, Err, refl, sym, ap, subst, ◌∙◌, arith, ⊎_elim}
 use Rattle.std.proofs.lemmas.Bool.{cases_lt}
 use Rattle.std.proofs.lemmas.List.{get_or_append_left, length_push, length-map, length-reverse}
 use Rattle.std.proofs.Math.Seq.{get_or-append_seam}
@@ -107,17 +107,32 @@ noted_each old new s e step more params k lt =
     ∙ ap (λ j. count (entry_at (env old ++ e ∷ []) j).params) (sym here))
     (cases_lt k (length (env old))))
 
+-- and each has few parameters
+noted_short : (s : State) (k : ℕ) → length s.flags ≤ 64 → ((j : ℕ) → j < length s.marks → length (made_under s j) ≤ 64) → k < length s.marks + 1
+    → length (made_under (noted s) k) ≤ 64
+noted_short s k few each lt =
+    ⊎_elim
+    (λ (l : k < length s.marks). subst (λ ns. length ns ≤ 64) (sym (get_or_append_left s.marks (numbers s.flags ∷ []) [] k l)) (each k l))
+    (λ (l : length s.marks ≤ k).
+    let here : k ≡ length s.marks = omega (arith, lt, l) in
+    let flags : length (numbers s.flags) ≡ length s.flags = length-reverse (map (λ f. f.number) s.flags) ∙ length-map s.flags (λ f. f.number) in
+    let mark : made_under (noted s) k ≡ numbers s.flags = ap (made_under (noted s)) here ∙ get_or-append_seam s.marks (numbers s.flags) [] [] in
+    subst (λ ns. length ns ≤ 64) (sym mark) (omega (arith, flags, few)))
+    (cases_lt k (length s.marks))
+
 pub noted_step : (old mid new : Standing) (s s' after : State) (e : Entry) → IsInStep old s → Continues old mid → AddsEntry mid new e → e.params ≡ mid.context → s' ≡ s → after ≡ noted s' → IsInStep new after
 noted_step old mid new s s' after e step on adds params same noting =
     let more : env new ≡ env old ++ e ∷ [] = adds.env ∙ (λ i. on.adds.env i ++ e ∷ []) in
     let is : after ≡ noted s = noting ∙ ap noted same in
+    let all = length_push (env old) e in
     subst (IsInStep new) (sym is)
     (record {
       binders = step.binders;
       flags = step.flags ∙ ap count (sym (adds.context ∙ on.context));
       few = step.few;
-      marks = length_push s.marks (numbers s.flags) ∙ (let l = length_push (env old) e in omega (arith, l, ap length more, step.marks));
+      marks = length_push s.marks (numbers s.flags) ∙ omega (arith, all, ap length more, step.marks);
       each = noted_each old new s e step more (params ∙ on.context);
+      short = λ k lt. noted_short s k step.few (λ j l. step.short j (omega (arith, l, step.marks))) (omega (arith, lt, all, ap length more, step.marks));
     })
 
 -- the same of two trees

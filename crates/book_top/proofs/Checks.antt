@@ -27,7 +27,7 @@ use Rattle.book_top.specs.Verdict as verdict
 use Rattle.book_top.specs.Spells.{Accepts, none, more, item_book, item_note}
 use Rattle.book_top.specs.Desk.{OnlyTarget}
 use Rattle.book_top.specs.Chunks.{IsCheckDone}
-use Rattle.book_top.specs.Judged.{IsAccepted, IsInStep, HasRoom}
+use Rattle.book_top.specs.Judged.{IsAccepted, IsInStep}
 use Rattle.book_top.specs.Left.{IsFront}
 use Rattle.book_top.proofs.Sessions.{front_of, never_empty}
 
@@ -93,6 +93,7 @@ in_step theory scope no_entry flat at_start =
       few = omega arith;
       marks = sym (ap length no_entry);
       each = λ k below. absurd (omega (arith, below, ap length no_entry));
+      short = λ k below. absurd (omega (arith, below, ap length no_entry));
     })
 
 -- nothing but the header is written

@@ -2,7 +2,7 @@
 use Rattle.std.proofs.Common.{◌≡◌, ◌<◌, ◌≤◌, ◌-◌, ℕ, zero, suc, nat_lt, if◌then◌else◌, List, length, Result, Ok, Err, IsErrAnd, sym, ap, subst, ◌∙◌, arith, length-drop}
 use Rattle.std.proofs.lemmas.Bool.Decides.{nat_tests}
 use Rattle.ld_terms.specs.Tree.{Trees, Nil, ◌▸◌, count}
-use Rattle.ld_infer.specs.Standing.{Standing, known, env, Goes, without}
+use Rattle.ld_infer.specs.Standing.{Standing, known, env, without}
 use Rattle.fb_parse.specs.Items.{SurfaceItem}
 use Rattle.fb_scope.specs.State.{State, left_to}
 use Rattle.book_top.specs.declared.item.ItemStop.{ItemStop}
@@ -12,7 +12,7 @@ use Rattle.book_top.specs.declared.status.TextWhat.TheVariants as what
 use Rattle.book_top.specs.Book.{Book, Reading, names_of, book_of, closed}
 use Rattle.book_top.specs.Names.{fault_at, ◌>>=◌}
 use Rattle.book_top.specs.Verdict.{Verdict, TextRefused, at_depth, read_item, read_here}
-use Rattle.book_top.specs.Judged.{IsInStep, HasRoom, StopsItemBy, JudgesItem}
+use Rattle.book_top.specs.Judged.{IsInStep, StopsItemBy, JudgesItem}
 use Rattle.book_top.specs.Told.{read_by, TellsStop}
 use Rattle.book_top.proofs.Verdicts.{here_by, unread_stops}
 
@@ -56,6 +56,7 @@ step_left s scope bars h =
       few = omega (arith, l, h.few);
       marks = h.marks;
       each = h.each;
+      short = h.short;
     }
 
 module _ (old mid : Standing) (before left between : State) (bars : ℕ) (theory : mid ≡ closed_standing bars old) (scope : left ≡ left_to bars before) (same : between ≡ left) where

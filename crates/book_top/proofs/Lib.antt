@@ -8,6 +8,7 @@ pub mod Budgets
 pub mod TextWords
 pub mod Binds
 pub mod Applying
+pub mod Listing
 pub mod Continuing
 pub mod Formed
 pub mod Telling

@@ -1,10 +1,9 @@
 -- What is said, piece by piece.
-use Rattle.std.proofs.Common.{◌≡◌, ◌+◌, ◌++◌, ℕ, zero, suc, List, [], ◌∷◌, take, Some, slice_get, ap, sym, ◌∙◌, arith, append_assoc, add-one, codes}
+use Rattle.std.proofs.Common.{◌≡◌, ◌+◌, ◌++◌, ℕ, zero, suc, List, [], ◌∷◌, take, Some, slice_get, ap, sym, ◌∙◌, arith, append_assoc, add-one}
 use Rattle.std.proofs.lemmas.List.{append-nil}
 use Rattle.fb_base.specs.declared.places.Span.{Span}
 use Rattle.fb_parse.specs.ItemView.{at_span}
 use Rattle.book_top.specs.declared.status.TextWhat.{TextWhat}
-use Rattle.book_top.specs.declared.status.TextWhat.TheVariants as what
 use Rattle.ld_infer.specs.declared.failure.PathStep.{PathStep}
 use Rattle.book_top.specs.Report.{dot_text, step_text, steps_text, path_text, what_text}
 
@@ -35,8 +34,8 @@ step_said a path i s x y z one two three get =
     ∙ ap (λ b. a ++ b) (sym (steps_more 0 i path s get))
     ∙ ap (λ n. a ++ path_text (take n path)) (sym (add-one i))
 
--- a name that no entry has is said
-pub unknown_said : (old mid new text : List ℕ) (at : Span) (w : TextWhat) → w ≡ what.Unknown → mid ≡ old ++ codes "unknown name " → new ≡ mid ++ at_span text at
+-- words and the name behind them are said
+pub name_said : (old mid new text words : List ℕ) (at : Span) (w : TextWhat) → what_text text at w ≡ words ++ at_span text at → mid ≡ old ++ words → new ≡ mid ++ at_span text at
     → new ≡ old ++ what_text text at w
-unknown_said old mid new text at w is one two =
-    two ∙ ap (λ b. b ++ at_span text at) one ∙ append_assoc old (codes "unknown name ") (at_span text at) ∙ ap (λ x. old ++ what_text text at x) (sym is)
+name_said old mid new text words at w is one two =
+    two ∙ ap (λ b. b ++ at_span text at) one ∙ append_assoc old words (at_span text at) ∙ ap (λ b. old ++ b) (sym is)

@@ -27,7 +27,7 @@ use Rattle.book_top.specs.Left.{Files, IsKept, IsLeft, kept, between, whole as w
 use Rattle.book_top.specs.Checked.{IsOutcome, IsChecked, AnswersFault, AnswersStop}
 use Rattle.book_top.specs.Top.{IsFetched, AnswersOutcome, AnswersItem, AnswersNoCommand, Leaves, untouched, left, Checks, done, too_long, no_book, item_refused, Outcome, IsSaid, IsAnswerOf}
 use Rattle.book_top.specs.Top as top
-use Rattle.book_top.specs.Words.{IsCheck, IsNoCommand, IsDecided, HasBudget, default, stated}
+use Rattle.book_top.specs.Words.{IsCheck, IsNoCommand, IsDecided}
 use Rattle.book_top.specs.Said.{HasNoPlace, SaysOf}
 use Rattle.book_top.proofs.CommandLines.{arranged_once}
 use Rattle.fb_base.specs.Desk.{Seen}

@@ -24,13 +24,15 @@ pub record IsNameSpan (text : List ℕ) (s : Span) : Type 0 where
   pub some : 0 < length (at_span text s)
   pub short : length (at_span text s) ≤ 255
 
--- A theory and a scope go together: the flags are the context's variables, and each entry is noted under as many as it has parameters.
+-- A theory and a scope go together: the flags are the context's variables, and each entry is noted under as many as it has parameters,
+-- which are at most 64.
 pub record IsInStep (s : Standing) (scope : State) : Type 0 where
   pub binders : scope.binders ≡ []
   pub flags : length scope.flags ≡ count s.context
   pub few : length scope.flags ≤ 64
   pub marks : length scope.marks ≡ length (env s)
   pub each : (k : ℕ) → k < length (env s) → length (made_under scope k) ≡ count (entry_at (env s) k).params
+  pub short : (k : ℕ) → k < length (env s) → length (made_under scope k) ≤ 64
 
 -- there is room for one more flag and one more entry
 pub record HasRoom (s : Standing) (scope : State) : Type 0 where

@@ -62,12 +62,19 @@ path_text path = steps_text 0 path
 abbrev pub depth_text : (bars flags : ℕ) → List ℕ
 depth_text bars flags = codes "depth " ++ decimal bars ++ codes " over " ++ decimal flags
 
+-- how many arguments a name wants, and how many it is given
+abbrev pub wants_text : (wanted given : ℕ) → List ℕ
+wants_text wanted given = codes " wants " ++ decimal wanted ++ codes ", given " ++ decimal given
+
 -- why a text has no reading, with the name at the fault where it is one
 abbrev pub what_text : (text : List ℕ) → Span → TextWhat → List ℕ
 what_text text at what.BadByte = codes "bad byte"
 what_text text at what.LongName = codes "long name"
 what_text text at what.Syntax = codes "syntax"
 what_text text at what.Unknown = codes "unknown name " ++ at_span text at
+what_text text at what.NotAConstant = codes "not a constant " ++ at_span text at
+what_text text at (what.ParamsMissing wanted given) = at_span text at ++ wants_text wanted given
+what_text text at (what.ParamsMany wanted given) = at_span text at ++ wants_text wanted given
 what_text text at what.FlagTaken = codes "flag taken " ++ at_span text at
 what_text text at (what.DepthTooGreat bars flags) = depth_text bars flags
 what_text text at what.NameTaken = codes "name taken " ++ at_span text at

@@ -15,7 +15,8 @@ ghost use Rattle.book_top.specs.Verdict.{flag_free, entry_free};
 ghost use Rattle.book_top.specs.Judged.{IsNameSpan, IsInStep, HasRoom, JudgesItem};
 ghost use Rattle.book_top.specs.Told.{Tells, ReadsItem, reading_by, AreRead, IsFreeFor, judge_stop, JudgesReading};
 
-use crate::names::{NameStop, build, check_names, fault_at};
+use crate::build::build;
+use crate::names::{NameStop, check_names, fault_at};
 use crate::status::{TextFault, TextWhat, Want};
 use fb_base::Span;
 use fb_parse::{Body, Item, ItemKind, Tree};

@@ -1,8 +1,11 @@
 //! The top call: from the words of the command line to the derivation file and the report.
 #![tactic(auto)]
 
+mod build;
 mod check;
 mod item;
+#[cfg(test)]
+mod name_tests;
 mod names;
 mod report;
 #[cfg(test)]

@@ -111,6 +111,14 @@ fn push_what(
             push("unknown name ", out)?;
             push_span(text, at, out)
         }
+        TextWhat::NotAConstant => {
+            push("not a constant ", out)?;
+            push_span(text, at, out)
+        }
+        TextWhat::ParamsMissing { wanted, given } | TextWhat::ParamsMany { wanted, given } => {
+            push_span(text, at, out)?;
+            push_wants(alloc, wanted, given, out)
+        }
         TextWhat::FlagTaken => {
             push("flag taken ", out)?;
             push_span(text, at, out)
@@ -121,6 +129,16 @@ fn push_what(
             push_span(text, at, out)
         }
         TextWhat::NotBuilt => push("not built", out),
+    }
+}
+
+// What is said of its arguments behind a name.
+fn push_wants(alloc: Global, wanted: u32, given: u32, out: &mut Vec<u8>) -> Result<(), NoMemory>
+    ensures { OnOk result (out.new.items ≡ out.old.items ++ said.wants_text wanted given) }
+{
+    match format!(in alloc; " wants {wanted}, given {given}") {
+        Ok(words) => push(&words, out),
+        Err(_) => Err(NoMemory),
     }
 }
 

@@ -30,13 +30,19 @@ pub enum TextWhat {
     Syntax,
     /// No binder, open flag or entry has the name.
     Unknown,
+    /// The name has arguments touching it, and is that of a binder or an open flag.
+    NotAConstant,
+    /// Fewer arguments are given than are wanted: those for the parameters of the entry whose flags aren't open.
+    ParamsMissing { wanted: u32, given: u32 },
+    /// More arguments are given than the entry has parameters, which are those wanted.
+    ParamsMany { wanted: u32, given: u32 },
     /// An open flag has the name already.
     FlagTaken,
     /// An entry has the name already.
     NameTaken,
     /// The item has more bars than flags are open.
     DepthTooGreat { bars: u32, flags: u32 },
-    /// A form that this version does not check yet.
+    /// A body of a line, or a judging, that this version does not do yet. The span is the item's.
     NotBuilt,
 }
 
@@ -118,8 +124,8 @@ pub enum LimitFault {
 pub enum Status {
     /// The book is accepted, and its derivation written.
     Done(Summary),
-    /// The book has no reading: its text is none, or its first refused item has more bars than flags are open, a taken or
-    /// unknown name, or a form that isn't built.
+    /// The book has no reading: its text is none, or its first refused item has more bars than flags are open, a taken
+    /// name, a name that stands for nothing with the arguments that it is given, or a form that isn't built.
     Text(TextFault),
     /// The words ask for nothing that is known.
     Usage,

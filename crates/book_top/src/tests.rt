@@ -95,7 +95,6 @@ fn refused_items(rt: HostRuntime) -> Result<(), Fail> {
             "1:1: text: not built\n",
             header,
         ),
-        ("x := y(*) : *", 1, "1:6: text: not built\n", header),
         ("| A := prim : *", 1, "1:3: text: depth 1 over 0\n", header),
         (
             "A := prim : *\nA := prim : *",
@@ -169,44 +168,6 @@ fn no_books(rt: HostRuntime) -> Result<(), Fail> {
     Ok(())
 }
 
-// Names and comments in other letters; a column counts characters.
-#[test]
-fn other_letters(rt: HostRuntime) -> Result<(), Fail> {
-    for (book, code, report) in [
-        ("α := prim : *", 0, "done: 1 items, 1 entries, 0 steps\n"),
-        (
-            "# 証明の本\n命題_1 := prim : * # первое\r\n\nÄ' := 命題_1 -> 命題_1 : *",
-            0,
-            "done: 2 items, 2 entries, 0 steps\n",
-        ),
-        ("_x := prim : *\n", 0, "done: 1 items, 1 entries, 0 steps\n"),
-        ("α := β : *", 1, "1:6: text: unknown name β\n"),
-        ("# é\nx := é -> ж : *", 1, "2:6: text: unknown name é\n"),
-        (
-            "é := prim : *\nx := é -> ж : *",
-            1,
-            "2:11: text: unknown name ж\n",
-        ),
-        ("→ := prim : *", 1, "1:1: text: bad byte\n"),
-    ] {
-        check(&rt, rt.alloc(), book.as_bytes(), code, report)?;
-    }
-    Ok(())
-}
-
-#[test]
-fn long_names(rt: HostRuntime) -> Result<(), Fail> {
-    for (length, code, report) in [
-        (255, 0, "done: 1 items, 1 entries, 0 steps\n"),
-        (256, 1, "1:1: text: long name\n"),
-    ] {
-        let mut book = vec![in rt.alloc(); b'a'; length]?;
-        book.extend_from_slice(b" := prim : *")?;
-        check(&rt, rt.alloc(), &book, code, report)?;
-    }
-    Ok(())
-}
-
 // The answer for a book.
 fn answer(alloc: Global, book: &str) -> Result<Status, NoMemory> {
     let mut desk = desk_with(alloc, book.as_bytes(), &[])?;
@@ -223,7 +184,27 @@ fn places_of_refusals(rt: HostRuntime) -> Result<(), Fail> {
         ("A := prim : *\nx := y : A", TextWhat::Unknown, 19, 20),
         ("A := prim : *\nA := y : z", TextWhat::NameTaken, 14, 15),
         ("A := prim : *\nx := A A : *", TextWhat::NotBuilt, 14, 26),
-        ("A := prim : *\nx := A(*) : *", TextWhat::NotBuilt, 19, 23),
+        // The fault of a name is at the name alone.
+        ("x := y(*) : *", TextWhat::Unknown, 5, 6),
+        ("[xy : *]\n| z := xy(*) : *", TextWhat::NotAConstant, 16, 18),
+        (
+            "AB := prim : *\nx := AB(*) : *",
+            TextWhat::ParamsMany {
+                wanted: 0,
+                given: 1,
+            },
+            20,
+            22,
+        ),
+        (
+            "[A : *]\n| BC := A : *\nx := BC : *",
+            TextWhat::ParamsMissing {
+                wanted: 1,
+                given: 0,
+            },
+            27,
+            29,
+        ),
         ("x := * :", TextWhat::Syntax, 8, 8),
         ("x := $ : *", TextWhat::BadByte, 5, 5),
     ] {

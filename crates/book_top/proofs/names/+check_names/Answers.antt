@@ -1,22 +1,23 @@
-use Rattle.std.proofs.Common.{refl, false, Result, Err, IsOk, sym, ap, subst, ◌∙◌}
+use Rattle.std.proofs.Common.{refl, Result, Ok, Err, IsOk, sym, subst, ◌∙◌}
 use Rattle.ld_env.specs.Named.{names_of as names_in}
 use Rattle.ld_terms.specs.Tree as spec
 use Rattle.fb_parse.specs.View.{view, views}
 use Rattle.fb_scope.specs.State.{State}
-use Rattle.fb_scope.specs.Resolve.{resolve}
 use Rattle.book_top.specs.declared.status.TextFault.{TextFault}
-use Rattle.book_top.specs.Names.{tree_of, applied, found}
+use Rattle.book_top.specs.Names.{tree_of, applied, implied_of, with_arguments}
 use Rattle.book_top.specs.Built.{Reads}
-use Rattle.book_top.proofs.Binds.{unread, unread_by, name_read, apply_read, reads_arguments}
+use Rattle.book_top.proofs.Binds.{unread, unread_by, name_read, inst_read, apply_read, reads_arguments}
 use Rattle.book_top.proofs.Applying.{arguments_unread, arguments_next, arguments_end}
+use Rattle.book_top.proofs.Listing.{reads_listed}
 use Rattle.book_top.proofs.names.+check_names.Goals as goal
 
 pub check_names-returns-in_err-stands_for-in-Name-clause-answer : goal.check_names-returns-in_err-stands_for-in-Name-clause-answer
 check_names-returns-in_err-stands_for-in-Name-clause-answer t c =
     let s = c.args.scope.now in
     let names = names_in c.args.env.now in
-    unread (tree_of s names (view c.args.tree)) c.in_err-stands_for-in-Name.field-0.0 c.from_residual.result
-    (name_read s names c.args.tree c.in-Name.name c.in-Name.is ∙ ap (λ n. found c.args.tree.span (resolve s names n 0 false)) (sym c.as_bytes.ensures.value) ∙ c.in_err-stands_for-in-Name.ensures)
+    let f = c.in_err-stands_for-in-Name.field-0.0 in
+    unread (tree_of s names (view c.args.tree)) f c.from_residual.result
+    (name_read s names c.args.tree c.in-Name.name c.as_bytes.result.now (Err f) c.in-Name.is c.as_bytes.ensures.value c.in_err-stands_for-in-Name.ensures)
     c.from_residual.ensures.1
 
 pub check_names-returns-in_ok-stands_for-in-Name-clause-answer : goal.check_names-returns-in_ok-stands_for-in-Name-clause-answer
@@ -24,8 +25,30 @@ check_names-returns-in_ok-stands_for-in-Name-clause-answer t c =
     let s = c.args.scope.now in
     let names = names_in c.args.env.now in
     subst IsOk
-    (sym (name_read s names c.args.tree c.in-Name.name c.in-Name.is ∙ ap (λ n. found c.args.tree.span (resolve s names n 0 false)) (sym c.as_bytes.ensures.value) ∙ c.in_ok-stands_for-in-Name.ensures))
+    (sym (name_read s names c.args.tree c.in-Name.name c.as_bytes.result.now (Ok c.in_ok-stands_for-in-Name.field-0) c.in-Name.is c.as_bytes.ensures.value c.in_ok-stands_for-in-Name.ensures))
     refl
+
+pub check_names-returns-in_err-stands_for-in-Inst-clause-answer : goal.check_names-returns-in_err-stands_for-in-Inst-clause-answer
+check_names-returns-in_err-stands_for-in-Inst-clause-answer t c =
+    let s = c.args.scope.now in
+    let names = names_in c.args.env.now in
+    let f = c.in_err-stands_for-in-Inst.field-0.0 in
+    unread (tree_of s names (view c.args.tree)) f c.from_residual-in_err-stands_for-in-Inst.result
+    (inst_read s names c.args.tree c.in-Inst.name c.in-Inst.arguments c.as_bytes-in-Inst.result.now c.given-given.result (Err f) c.in-Inst.is c.as_bytes-in-Inst.ensures.value c.given-given.ensures
+    c.in_err-stands_for-in-Inst.ensures)
+    c.from_residual-in_err-stands_for-in-Inst.ensures.1
+
+pub check_names-returns-in_ok-stands_for-in-Inst-clause-answer : goal.check_names-returns-in_ok-stands_for-in-Inst-clause-answer
+check_names-returns-in_ok-stands_for-in-Inst-clause-answer t c =
+    let s = c.args.scope.now in
+    let names = names_in c.args.env.now in
+    let us = c.in-Inst.arguments in
+    let f = c.in_ok-stands_for-in-Inst.field-0 in
+    let q = c.check_arguments-in-Inst.result in
+    let P : Result spec.Tree TextFault → Type 0 = λ r. Reads r q in
+    subst P
+    (sym (inst_read s names c.args.tree c.in-Inst.name us c.as_bytes-in-Inst.result.now c.given-given.result (Ok f) c.in-Inst.is c.as_bytes-in-Inst.ensures.value c.given-given.ensures c.in_ok-stands_for-in-Inst.ensures))
+    (reads_listed s names spec.Star (implied_of s f) (views us.now) (with_arguments f) q (c.check_arguments-in-Inst.ensures.answer spec.Star))
 
 pub check_names-returns-in_ok-check_names-in-Apply-clause-answer : goal.check_names-returns-in_ok-check_names-in-Apply-clause-answer
 check_names-returns-in_ok-check_names-in-Apply-clause-answer t c =
