@@ -7,6 +7,8 @@ mod item;
 #[cfg(test)]
 mod name_tests;
 mod names;
+#[cfg(test)]
+mod parameter_tests;
 mod report;
 #[cfg(test)]
 mod rule_tests;

@@ -1,4 +1,4 @@
-//! Runs over books whose names are in other letters, are long, or stand for nothing.
+//! Runs over books whose names are in other letters, or long.
 
 use crate::tests::check;
 use std::test::Fail;
@@ -37,49 +37,6 @@ fn long_names(rt: HostRuntime) -> Result<(), Fail> {
         let mut book = vec![in rt.alloc(); b'a'; length]?;
         book.extend_from_slice(b" := prim : *")?;
         check(&rt, rt.alloc(), &book, code, report)?;
-    }
-    Ok(())
-}
-
-#[test]
-fn refused_names(rt: HostRuntime) -> Result<(), Fail> {
-    for (book, report) in [
-        ("[x : *]\n| c := x(x) : *", "2:8: text: not a constant x\n"),
-        (
-            "A := prim : *\nf := prim : A -> A\n[u : A]\n| h := f(u) : A",
-            "4:8: text: f wants 0, given 1\n",
-        ),
-        // The flag that is open has the name of one that is closed.
-        (
-            "A := prim : *\n[x : A]\n| [y : A]\n| | c := x : A\n[x : A]\n| d := c(x) : A",
-            "6:8: text: c wants 2, given 1\n",
-        ),
-        (
-            "A := prim : *\n[x : A]\n| c := x : A\nd := c : A",
-            "4:6: text: c wants 1, given 0\n",
-        ),
-        // The argument for the flag that is open is implied.
-        (
-            "A := prim : *\n[x : A]\n| [y : A]\n| | c := x : A\n| d := c : A",
-            "5:8: text: c wants 1, given 0\n",
-        ),
-        // A binder comes before the entry of its name.
-        (
-            "A := prim : *\n[x : A]\n| c := x : A\nd := fun c : A . c(c) : A -> A",
-            "4:18: text: not a constant c\n",
-        ),
-        // The name of an instance comes before its arguments, and these from left to right.
-        ("x := y(z) : *", "1:6: text: unknown name y\n"),
-        (
-            "A := prim : *\n[x : A]\n| c := x : A\nd := c(y, z) : A",
-            "4:6: text: c wants 1, given 2\n",
-        ),
-        (
-            "A := prim : *\n[x : A]\n| [y : A]\n| | c := x : A\nd := c(z, w) : A",
-            "5:8: text: unknown name z\n",
-        ),
-    ] {
-        check(&rt, rt.alloc(), book.as_bytes(), 1, report)?;
     }
     Ok(())
 }

@@ -97,14 +97,35 @@ fn refused_names(rt: HostRuntime) -> Result<(), Fail> {
             "[A : *]\n| c := A : *\n| d := c(A, A) : *",
             "3:8: text: c wants 1, given 2\n",
         ),
+        // The argument for the flag that is open is implied.
+        (
+            "A := prim : *\n[x : A]\n| [y : A]\n| | c := x : A\n| d := c : A",
+            "5:8: text: c wants 1, given 0\n",
+        ),
+        (
+            "A := prim : *\n[x : A]\n| c := x : A\nd := c : A",
+            "4:6: text: c wants 1, given 0\n",
+        ),
         // A flag or binder has no arguments.
         ("[x : *]\n| c := x(x) : *", "2:8: text: not a constant x\n"),
         (
             "f := fun x : * . x(x) : *",
             "1:18: text: not a constant x\n",
         ),
-        // The name of an instance is looked up before those of its arguments.
+        (
+            "A := prim : *\n[x : A]\n| c := x : A\nd := fun c : A . c(c) : A -> A",
+            "4:18: text: not a constant c\n",
+        ),
+        // The name of an instance is looked up before those of its arguments, and these from left to right.
         ("B := c(d) : *", "1:6: text: unknown name c\n"),
+        (
+            "A := prim : *\n[x : A]\n| c := x : A\nd := c(y, z) : A",
+            "4:6: text: c wants 1, given 2\n",
+        ),
+        (
+            "A := prim : *\n[x : A]\n| [y : A]\n| | c := x : A\nd := c(z, w) : A",
+            "5:8: text: unknown name z\n",
+        ),
         (
             "A := prim : *\nB := A(d) : *",
             "2:6: text: A wants 0, given 1\n",
