@@ -3,21 +3,24 @@ use Rattle.std.proofs.Common.{◌≡◌, ◌<◌, ◌+◌, ℕ, zero, suc, true,
 use Rattle.std.specs.Prelude.{Bool, slice_get}
 use Rattle.std.proofs.lemmas.List.{append-nil, take_more, take_all}
 use Rattle.std.proofs.lemmas.Option.{get_or_from_slice_get}
+use mathlib.Core.Path.{subst₂}
 use Rattle.ld_terms.specs.Tree.{Tree, Star, ◌▸◌}
 use Rattle.ld_terms.specs.Item.{Item}
 use Rattle.ld_terms.specs.Bank.{tree_at}
-use Rattle.ld_terms.specs.Known.{Known, nothing, Judgement, context_at, MayEnd, with_context, with_node}
+use Rattle.ld_terms.specs.Known.{Known, nothing, Equality, Judgement, context_at, bound_by, MayEnd, with_context, with_equality, with_node}
 use Rattle.ld_terms.specs.Record.{Record, State, start, term_at, IsThere, Meets, IsNoEnd, after, final}
 use Rattle.ld_terms.specs.declared.bank.TermId.{TermId}
 use Rattle.ld_record.specs.declared.record.CtxId.{CtxId}
 use Rattle.ld_record.specs.declared.record.JudgeId.{JudgeId}
 use Rattle.ld_record.specs.declared.record.Judge.{Judge}
+use Rattle.ld_record.specs.declared.record.EqStep.{EqStep}
 use Rattle.ld_record.specs.declared.record.Step.{Step}
 use Rattle.ld_record.specs.declared.record.Kept.{Kept}
-use Rattle.ld_record.specs.declared.record.Kept.TheVariants.{Context, Node, Entry, Flag}
+use Rattle.ld_record.specs.declared.record.Kept.TheVariants.{Context, Equal, Node, Entry, Flag}
 use Rattle.ld_record.specs.Follows.{rule_of, Follows}
+use Rattle.ld_record.specs.Equal.{eq_rule_of, FollowsEqual}
 use Rattle.ld_record.specs.Growth.{Knows}
-use Rattle.ld_record.specs.Kept.{with_kept, known_after, known_of, judgement_of, FitsNode, Fits, AreSound, IsSound}
+use Rattle.ld_record.specs.Kept.{with_kept, known_after, known_of, judgement_of, equality_of, FitsEqual, FitsNode, Fits, AreSound, IsSound}
 use Rattle.dr_text.specs.declared.terms.Terms.{Terms}
 use Rattle.dr_text.specs.declared.writer.Writer.{Writer}
 use Rattle.ld_terms.specs.Named.{IsNamed}
@@ -26,6 +29,7 @@ use Rattle.dr_text.specs.Written.{Matches, Writes, Pushes, Numbers, Reached, Wri
 use Rattle.dr_text.proofs.Records.{final-append, stand-append, records_bytes-append, writes_none, writes_then, writes_more}
 use Rattle.ld_record.proofs.Keeping.{known_after-push}
 use Rattle.ld_record.proofs.Rules.{follows_by, premises_there}
+use Rattle.ld_record.proofs.Equals.{equal_by, equalities_there}
 use Rattle.ld_record.proofs.Named.{none_named}
 use Rattle.dr_text.proofs.Named.{names_at}
 
@@ -78,6 +82,39 @@ node_reached items s x terms a c later judge rule t u w reach matches pushes fit
     (fits.numbers.entries, fits.numbers.context, t_there, u_there, premises_there x q rule by) (follows_by x.known q rule by) refl
     (ap (with_node x.known) is)
 
+-- an equality, where the state x has its sides
+equal_reached : (items : List Item) (s x : State) (terms : Terms) (a c later : List ℕ) (left right : TermId) (rule : EqStep) (t u : ℕ) (w : Writes s a c) → final s w.records ≡ x
+    → Matches items terms x → Pushes c later (Record.Equal t u (eq_rule_of rule)) → FitsEqual items x.known left right rule
+    → t < length x.terms → u < length x.terms → term_at x t ≡ tree_at items left → term_at x u ≡ tree_at items right
+    → Reached items s terms a later (with_kept items x.known (Equal left right rule))
+equal_reached items s x terms a c later left right rule t u w reach matches pushes fits t_there u_there t_is u_is =
+    let l = term_at x t in
+    let r = term_at x u in
+    let q : Equality = record { left = l; right = r; bound = bound_by x.known l (eq_rule_of rule) } in
+    let is : q ≡ equality_of items x.known left right rule =
+    ap (λ (y : Tree). record { left = y; right = r; bound = bound_by x.known y (eq_rule_of rule) }) t_is
+    ∙ ap (λ (y : Tree). record (equality_of items x.known left right rule) { right = y }) u_is in
+    let by : FollowsEqual x.known l r rule = subst₂ (λ y z. FollowsEqual x.known y z rule) (sym t_is) (sym u_is) fits.follows in
+    reached_last items s x terms a c later (Record.Equal t u (eq_rule_of rule)) _ w reach matches tt pushes
+    (t_there, u_there, equalities_there x l r rule by) (equal_by x.known l r rule by) refl
+    (ap (with_equality x.known) is)
+
+pub equal_written : (items : List Item) (old mid new : Terms) (a b c later : List ℕ) (left right : TermId) (rule : EqStep) (t u : ℕ)
+    → Numbers items old mid a b (tree_at items left) t → Numbers items mid new b c (tree_at items right) u
+    → Pushes c later (Record.Equal t u (eq_rule_of rule)) → WritesKept items old new a later (Equal left right rule)
+equal_written items old mid new a b c later left right rule t u first second pushes s matches fits named =
+    let one = first s matches named.0 in
+    let s1 = final s one.writes.records in
+    let N : Known → Type 0 = λ k. IsNamed k.env (tree_at items right) in
+    let two = second s1 one.matches (subst N (sym one.adds.known) named.1) in
+    let x = final s1 two.writes.records in
+    let same : x.known ≡ s.known = two.adds.known ∙ one.adds.known in
+    let F : Known → Type 0 = λ k. FitsEqual items k left right rule in
+    let R : Known → Type 0 = λ k. Reached items s new a later (with_kept items k (Equal left right rule)) in
+    subst R same
+    (equal_reached items s x new a c later left right rule t u (writes_then s a b c one.writes two.writes) (final-append s one.writes.records two.writes.records)
+    two.matches pushes (subst F (sym same) fits) (omega (arith, one.there, two.adds.longer)) two.there (two.adds.kept t one.there ∙ one.is) two.is)
+
 pub node_written : (items : List Item) (old mid new : Terms) (a b c later : List ℕ) (judge : Judge) (rule : Step) (t u : ℕ)
     → Numbers items old mid a b (tree_at items judge.term) t → Numbers items mid new b c (tree_at items judge.of) u
     → Pushes c later (Record.Node judge.entries judge.ctx.0 t u (rule_of rule)) → WritesKept items old new a later (Node judge rule)
@@ -121,6 +158,7 @@ fits_of items ks i k sound below is =
 -- what such a record needs of the bank
 pub has_terms : (items : List Item) (known : Known) (k : Kept) → Fits items known k → HasTerms items k
 has_terms items known (Context c t) h = h.term
+has_terms items known (Equal left right rule) h = (h.left_there, h.right_there)
 has_terms items known (Node judge rule) h = (h.numbers.term, h.numbers.of)
 has_terms items known (Entry name j prim) h = tt
 has_terms items known (Flag j) h = tt

@@ -1,11 +1,9 @@
 -- The bytes of a number, by their first.
-use Rattle.std.proofs.Common.{◌≡◌, ◌<◌, ◌≤◌, ◌+◌, ◌/◌, ◌%◌, ◌^◌, ℕ, zero, suc, List, [], ◌∷◌, ◌++◌, length, get_or, take, Fits, w64, refl, ap, sym, ◌∙◌, subst, arith, inl, inr, lt-ltb, le-ltb, append_assoc}
+use Rattle.std.proofs.Common.{◌≡◌, ◌<◌, ◌≤◌, ◌+◌, ◌/◌, ◌%◌, ◌^◌, ℕ, zero, suc, List, [], ◌∷◌, ◌++◌, length, map, get_or, take, Fits, w64, refl, ap, sym, ◌∙◌, subst, arith, inl, inr, lt-ltb, le-ltb, append_assoc}
 use Rattle.std.specs.List.{AllByRecursion}
-use Rattle.std.proofs.lemmas.List.{append-nil, take_more}
+use Rattle.std.proofs.lemmas.List.{append-nil, map-append, take_more}
 use Rattle.std.proofs.lemmas.Bool.{cases_lt}
-use Rattle.ld_record.specs.declared.record.JudgeId.{JudgeId}
-use Rattle.ld_record.specs.Follows.{numbers_of}
-use Rattle.ld_record.proofs.Judged.{all_more, numbers_of-last}
+use Rattle.ld_record.proofs.Judged.{all_more}
 use Rattle.dr_text.specs.Number.{number_within, number}
 use Rattle.dr_text.specs.Spelling.{numbers_bytes}
 
@@ -53,19 +51,19 @@ pub each_fits : (ns : List ℕ) → ((i : ℕ) → Fits w64 (get_or ns i 0)) →
 each_fits [] h = tt
 each_fits (n ∷ ns) h = (omega (arith, h 0), each_fits ns (λ i. h (suc i)))
 
--- the same of the numbers of judgements
-one_judge_more : (js : List JudgeId) (i n : ℕ) (d : JudgeId) → i < length js → n ≡ (get_or js i d).0 → numbers_of (take (i + 1) js) ≡ numbers_of (take i js) ++ n ∷ []
-one_judge_more js i n d below is =
-    ap numbers_of (take_more js i d below) ∙ numbers_of-last (take i js) (get_or js i d) ∙ ap (λ k. numbers_of (take i js) ++ k ∷ []) (sym is)
+-- the same of the numbers of judgements and of equalities
+one_more : {X : Type 0} (f : X → ℕ) (xs : List X) (i n : ℕ) (d : X) → i < length xs → n ≡ f (get_or xs i d) → map f (take (i + 1) xs) ≡ map f (take i xs) ++ n ∷ []
+one_more f xs i n d below is =
+    ap (map f) (take_more xs i d below) ∙ map-append f (take i xs) (get_or xs i d ∷ []) ∙ ap (λ k. map f (take i xs) ++ k ∷ []) (sym is)
 
-pub judges_more : (before so_far later : List ℕ) (js : List JudgeId) (i n : ℕ) (d : JudgeId) → i < length js → n ≡ (get_or js i d).0
-    → so_far ≡ before ++ numbers_bytes (numbers_of (take i js)) → later ≡ so_far ++ number n → later ≡ before ++ numbers_bytes (numbers_of (take (i + 1) js))
-judges_more before so_far later js i n d below at is more =
-    more ∙ ap (λ bytes. bytes ++ number n) is ∙ append_assoc before (numbers_bytes (numbers_of (take i js))) (number n)
-    ∙ ap (λ bytes. before ++ bytes) (sym (numbers_bytes-push (numbers_of (take i js)) n) ∙ ap numbers_bytes (sym (one_judge_more js i n d below at)))
+pub made_more : {X : Type 0} (f : X → ℕ) (before so_far later : List ℕ) (xs : List X) (i n : ℕ) (d : X) → i < length xs → n ≡ f (get_or xs i d)
+    → so_far ≡ before ++ numbers_bytes (map f (take i xs)) → later ≡ so_far ++ number n → later ≡ before ++ numbers_bytes (map f (take (i + 1) xs))
+made_more f before so_far later xs i n d below at is more =
+    more ∙ ap (λ bytes. bytes ++ number n) is ∙ append_assoc before (numbers_bytes (map f (take i xs))) (number n)
+    ∙ ap (λ bytes. before ++ bytes) (sym (numbers_bytes-push (map f (take i xs)) n) ∙ ap numbers_bytes (sym (one_more f xs i n d below at)))
 
-pub judges_fit_more : (js : List JudgeId) (i n : ℕ) (d : JudgeId) → i < length js → n ≡ (get_or js i d).0 → AllByRecursion (λ k. k < 2 ^ 64) (numbers_of (take i js))
-    → n < 2 ^ 64 → AllByRecursion (λ k. k < 2 ^ 64) (numbers_of (take (i + 1) js))
-judges_fit_more js i n d below at h last =
+pub made_fit : {X : Type 0} (f : X → ℕ) (xs : List X) (i n : ℕ) (d : X) → i < length xs → n ≡ f (get_or xs i d) → AllByRecursion (λ k. k < 2 ^ 64) (map f (take i xs))
+    → n < 2 ^ 64 → AllByRecursion (λ k. k < 2 ^ 64) (map f (take (i + 1) xs))
+made_fit f xs i n d below at h last =
     let P : List ℕ → Type 0 = λ ns. AllByRecursion (λ k. k < 2 ^ 64) ns in
-    subst P (sym (one_judge_more js i n d below at)) (all_more (λ k. k < 2 ^ 64) (numbers_of (take i js)) n h last)
+    subst P (sym (one_more f xs i n d below at)) (all_more (λ k. k < 2 ^ 64) (map f (take i xs)) n h last)

@@ -9,7 +9,7 @@ use Rattle.ld_terms.specs.Record.{Record, State, start, term_at, HasSpelling, Is
 use Rattle.ld_terms.specs.declared.bank.TermId.{TermId}
 use Rattle.ld_record.specs.declared.record.JudgeId.{JudgeId}
 use Rattle.ld_record.specs.declared.record.Kept.{Kept}
-use Rattle.ld_record.specs.declared.record.Kept.TheVariants.{Context, Node, Entry, Flag}
+use Rattle.ld_record.specs.declared.record.Kept.TheVariants.{Context, Equal, Node, Entry, Flag}
 use Rattle.ld_record.specs.Kept.{known_of, with_kept, Fits}
 use Rattle.dr_text.specs.declared.terms.Terms.{Terms}
 use Rattle.dr_text.specs.declared.writer.Writer.{Writer}
@@ -125,6 +125,7 @@ entry_record false name n = Record.Entry name n
 -- the terms of a record are terms of the bank
 abbrev pub HasTerms : List Item → Kept → Type 0
 HasTerms items (Context c t) = IsTermAt items t
+HasTerms items (Equal left right step) = IsTermAt items left × IsTermAt items right
 HasTerms items (Node judge step) = IsTermAt items judge.term × IsTermAt items judge.of
 HasTerms items (Entry name j prim) = Unit {0}
 HasTerms items (Flag j) = Unit {0}
@@ -132,6 +133,7 @@ HasTerms items (Flag j) = Unit {0}
 -- the terms of a record name entries as they are known
 abbrev pub HasNamedTerms : List Item → Known → Kept → Type 0
 HasNamedTerms items known (Context c t) = IsNamed known.env (tree_at items t)
+HasNamedTerms items known (Equal left right step) = IsNamed known.env (tree_at items left) × IsNamed known.env (tree_at items right)
 HasNamedTerms items known (Node judge step) = IsNamed known.env (tree_at items judge.term) × IsNamed known.env (tree_at items judge.of)
 HasNamedTerms items known (Entry name j prim) = Unit {0}
 HasNamedTerms items known (Flag j) = Unit {0}

@@ -2,14 +2,15 @@
 ghost use Rattle.std.specs.Prelude.{◌≡◌, ◌++◌, ◌∷◌, ◌<◌, ◌^◌, List, ℕ, OnOk};
 ghost use Rattle.std.specs.List.{AllByRecursion};
 ghost use Rattle.ld_terms.specs.Record.{Record};
-ghost use Rattle.ld_terms.specs.Rule.{rule_numbers};
+ghost use Rattle.ld_terms.specs.Rule.{equal_numbers, rule_numbers};
 ghost use Rattle.ld_record.specs.Follows.{numbers_of, rule_of};
-ghost use Rattle.dr_text.specs.Spelling.{tag, node_tag, numbers_bytes, header};
+ghost use Rattle.ld_record.specs.Equal.{eq_numbers_of, eq_rule_of};
+ghost use Rattle.dr_text.specs.Spelling.{tag, equal_tag, node_tag, numbers_bytes, header};
 ghost use Rattle.dr_text.specs.Written.{Pushes, entry_record};
 
 use crate::number::{push_number, push_numbers};
 use fb_base::{NoMemory, Text};
-use ld_record::{Judge, JudgeId, Step};
+use ld_record::{EqId, EqStep, Judge, JudgeId, Step};
 
 /// The bytes with which a derivation file begins.
 pub fn header() -> &'static [u8]
@@ -53,6 +54,7 @@ fn step_tag(step: &Step) -> u8
         Step::Form(..) => 0x33,
         Step::Appl(..) => 0x34,
         Step::Abst(..) => 0x35,
+        Step::Conv(..) => 0x36,
         Step::Def(_) => 0x37,
         Step::DefPrim(_) => 0x38,
         Step::Inst(..) => 0x39,
@@ -70,6 +72,7 @@ fn push_premises(step: &Step, out: &mut Vec<u8>) -> Result<(), NoMemory>
         Step::Weak(n, m) | Step::Form(n, m) | Step::Appl(n, m) | Step::Abst(n, m) => {
             push_numbers(&[n.number(), m.number()], out)
         }
+        Step::Conv(n, m, e) => push_numbers(&[n.number(), m.number(), e.number()], out),
         Step::Var(n) | Step::Def(n) | Step::DefPrim(n) => push_numbers(&[n.number()], out),
         Step::Inst(n, ns) | Step::InstPrim(n, ns) => {
             let judges = ns.as_slice();
@@ -86,6 +89,65 @@ fn push_judges(judges: &[JudgeId], out: &mut Vec<u8>) -> Result<(), NoMemory>
 {
     for j in judges {
         push_number(j.number(), out)?;
+    }
+    Ok(())
+}
+
+/// Appends an equality, whose sides have these numbers.
+pub fn push_equal(
+    step: &EqStep,
+    left: usize,
+    right: usize,
+    out: &mut Vec<u8>,
+) -> Result<(), NoMemory>
+    ensures { OnOk result (Pushes out.old.items out.new.items (Record.Equal left right (eq_rule_of step.now))) }
+{
+    push_record(eq_tag(step), &[left, right], out)?;
+    push_eq_premises(step, out)
+}
+
+fn eq_tag(step: &EqStep) -> u8
+    ensures { result ≡ equal_tag (eq_rule_of step.now) }
+{
+    match step {
+        EqStep::Refl => 0x20,
+        EqStep::Sym(_) => 0x21,
+        EqStep::Trans(..) => 0x22,
+        EqStep::Beta => 0x23,
+        EqStep::Delta => 0x24,
+        EqStep::App(..) => 0x25,
+        EqStep::Lam(..) => 0x26,
+        EqStep::Pi(..) => 0x27,
+        EqStep::Const(_) => 0x28,
+    }
+}
+
+// The numbers of an equality's premises; those of arguments stand behind their count.
+fn push_eq_premises(step: &EqStep, out: &mut Vec<u8>) -> Result<(), NoMemory>
+    ensures bytes { OnOk result (out.new.items ≡ out.old.items ++ numbers_bytes (equal_numbers (eq_rule_of step.now))) }
+    ensures range { OnOk result (AllByRecursion (λ n. n < 2 ^ 64) (equal_numbers (eq_rule_of step.now))) }
+{
+    match step {
+        EqStep::Refl | EqStep::Beta | EqStep::Delta => Ok(()),
+        EqStep::Sym(e) => push_numbers(&[e.number()], out),
+        EqStep::Trans(e, f) | EqStep::App(e, f) | EqStep::Lam(e, f) | EqStep::Pi(e, f) => {
+            push_numbers(&[e.number(), f.number()], out)
+        }
+        EqStep::Const(es) => {
+            let eqs = es.as_slice();
+            push_numbers(&[eqs.len()], out)?;
+            push_eqs(eqs, out)
+        }
+    }
+}
+
+// Appends the numbers of some equalities.
+fn push_eqs(eqs: &[EqId], out: &mut Vec<u8>) -> Result<(), NoMemory>
+    ensures bytes { OnOk result (out.new.items ≡ out.old.items ++ numbers_bytes (eq_numbers_of eqs.now)) }
+    ensures range { OnOk result (AllByRecursion (λ n. n < 2 ^ 64) (eq_numbers_of eqs.now)) }
+{
+    for e in eqs {
+        push_number(e.number(), out)?;
     }
     Ok(())
 }

@@ -6,7 +6,7 @@ ghost use Rattle.ld_record.specs.Growth.{Knows};
 ghost use Rattle.dr_text.specs.Spelling.{header};
 ghost use Rattle.dr_text.specs.Written.{IsWritten, Appends, last_judgement, Carries, WritesKept, HasTerms};
 
-use crate::record::{push_entry, push_flag, push_node, push_record};
+use crate::record::{push_entry, push_equal, push_flag, push_node, push_record};
 use crate::terms::Terms;
 use fb_base::NoMemory;
 use ld_record::{Deriv, JudgeId, Kept};
@@ -77,6 +77,11 @@ fn push_kept(terms: &mut Terms, bank: &Bank, kept: &Kept, out: &mut Vec<u8>) -> 
         Kept::Context(ctx, t) => {
             let t = terms.number_of(bank, *t, out)?;
             push_record(0x10, &[ctx.number(), t], out)
+        }
+        Kept::Equal(left, right, step) => {
+            let left = terms.number_of(bank, *left, out)?;
+            let right = terms.number_of(bank, *right, out)?;
+            push_equal(step, left, right, out)
         }
         Kept::Node(judge, step) => {
             let term = terms.number_of(bank, judge.term, out)?;

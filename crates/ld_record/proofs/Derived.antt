@@ -19,13 +19,14 @@ use Rattle.ld_terms.specs.Record.{Record, State, start, term_at, after, Meets, S
 use Rattle.ld_record.specs.declared.record.Kept.{Kept}
 use Rattle.ld_record.specs.declared.record.Kept.TheVariants as kept
 use Rattle.ld_record.specs.Kept as said
-use Rattle.ld_record.specs.Kept.{judgement_of, entry_by, with_kept, known_of, Fits, FitsEntry, AreSound, IsSound}
+use Rattle.ld_record.specs.Kept.{judgement_of, equality_of, entry_by, with_kept, known_of, Fits, FitsEntry, AreSound, IsSound}
 use Rattle.ld_record.specs.Laws.{IsDerivableIn, NodesAreDerivable, EnvironmentIsLegal, KeptNodesAreDerivable}
 use Rattle.ld_record.proofs.Lists.{with_one_more}
 use Rattle.ld_record.proofs.Prefixes.{entry_within, take_next, entry_below, entry_or_last, converts_more}
 use Rattle.ld_record.proofs.Holding.{EntryHolds, EqualityHolds, AllHold, nothing_holds, equated, equal_converts, bound_within, judged}
 use Rattle.ld_record.proofs.Arguments.{arguments_derived}
 use Rattle.ld_record.proofs.Rules.{follows_by}
+use Rattle.ld_record.proofs.Equals.{equal_by}
 
 -- A judgement that follows by a rule is derivable by the rule.
 module _ (known : Known) (hold : AllHold known) where
@@ -215,6 +216,9 @@ environment_is_legal rs h n end = ended_legal (final start rs).known (all_hold s
 -- the same of kept records
 kept_holds : (items : List Item) (known : Known) → AllHold known → (k : Kept) → Fits items known k → AllHold (with_kept items known k)
 kept_holds items known hold (kept.Context c t) h = more_contexts known hold (context_at known c.0 ▸ tree_at items t)
+kept_holds items known hold (kept.Equal left right step) h =
+    let equal = equal_by known (tree_at items left) (tree_at items right) step h.follows in
+    more_equalities known hold (equality_of items known left right step) (λ m low high. equal_converts known hold equal m low high) (bound_within known hold equal)
 kept_holds items known hold (kept.Node judge step) h =
     more_nodes known hold (judgement_of items known judge) (follows known hold (follows_by known (judgement_of items known judge) step h.follows))
 kept_holds items known hold (kept.Entry name j true) h =

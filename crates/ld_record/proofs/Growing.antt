@@ -1,27 +1,31 @@
--- Contexts, judgements and entries are only added, so that what a number stands for stays.
+-- Contexts, equalities, judgements and entries are only added, so that what a number stands for stays.
 use Rattle.std.proofs.Common.{◌≡◌, ◌<◌, ◌≤◌, ◌+◌, ℕ, zero, suc, Bool, true, false, List, [], ◌∷◌, ◌++◌, length, get_or, refl, ap, sym, ◌∙◌, subst, arith, add-zero}
 use Rattle.std.proofs.lemmas.List.{get_or_append_left, get_or_at, length_push}
 use Rattle.ld_terms.specs.Tree.{Tree, Trees, Nil, ◌▸◌}
 use Rattle.ld_terms.specs.Item.{Item, tree}
 use Rattle.ld_terms.specs.Bank.{tree_at, Extends}
+use Rattle.ld_terms.specs.declared.bank.TermId.{TermId}
 use Rattle.ld_terms.proofs.Banks.{term_at_later}
 use Rattle.ld_terms.specs.Entry.{Primitive}
 use Rattle.ld_terms.specs.Entry as named
-use Rattle.ld_terms.specs.Known.{Known, nothing, Judgement, no_judgement, context_at, judgement_at, with_context, with_node, with_entry, with_flag, primitive_entry}
+use Rattle.ld_terms.specs.Known.{Known, nothing, Equality, no_equality, Judgement, no_judgement, context_at, judgement_at, with_context, with_equality, with_node, with_entry, with_flag, bound_by, primitive_entry}
 use Rattle.ld_record.specs.declared.record.JudgeId.{JudgeId}
 use Rattle.ld_record.specs.declared.record.CtxId.{CtxId}
+use Rattle.ld_record.specs.declared.record.EqId.{EqId}
+use Rattle.ld_record.specs.declared.record.EqStep.{EqStep}
 use Rattle.ld_record.specs.declared.record.Judge.{Judge}
 use Rattle.ld_record.specs.declared.record.Step.{Step}
 use Rattle.ld_record.specs.declared.record.Kept.{Kept}
-use Rattle.ld_record.specs.declared.record.Kept.TheVariants.{Context, Node, Entry, Flag}
+use Rattle.ld_record.specs.declared.record.Kept.TheVariants.{Context, Equal, Node, Entry, Flag}
 use Rattle.ld_record.specs.Follows.{entry_at, IsDefined, Follows}
-use Rattle.ld_record.specs.Kept.{IsJudged, judgement_of, entry_by, with_kept, known_after, known_of, HasNumbers, FitsNode, Fits, AreSound, IsSound}
+use Rattle.ld_record.specs.Equal.{eq_rule_of, FollowsEqual}
+use Rattle.ld_record.specs.Kept.{IsJudged, judgement_of, equality_of, entry_by, with_kept, known_after, known_of, HasNumbers, FitsEqual, FitsNode, Fits, AreSound, IsSound}
 use Rattle.ld_record.specs.Tables.{judges_of, prims_of}
-use Rattle.ld_record.specs.Growth.{Knows, KnowsContext, IsNodeOf, Adds}
+use Rattle.ld_record.specs.Growth.{Knows, KnowsContext, KnowsEquality, IsNodeOf, Adds}
 use Rattle.ld_record.proofs.Keeping.{nodes_known}
 
 pub adds_refl : (known : Known) → Adds known known
-adds_refl known = record { env = refl; notes = refl; contexts = omega arith; context = λ c h. refl; nodes = omega arith; node = λ n h. refl }
+adds_refl known = record { env = refl; notes = refl; contexts = omega arith; context = λ c h. refl; equalities = omega arith; equality = λ e h. refl; nodes = omega arith; node = λ n h. refl }
 
 pub adds_trans : (a b c : Known) → Adds a b → Adds b c → Adds a c
 adds_trans a b c e f = record {
@@ -29,6 +33,8 @@ adds_trans a b c e f = record {
   notes = f.notes ∙ e.notes;
   contexts = omega (arith, e.contexts, f.contexts);
   context = λ n h. f.context n (omega (arith, e.contexts)) ∙ e.context n h;
+  equalities = omega (arith, e.equalities, f.equalities);
+  equality = λ n h. f.equality n (omega (arith, e.equalities)) ∙ e.equality n h;
   nodes = omega (arith, e.nodes, f.nodes);
   node = λ n h. f.node n (omega (arith, e.nodes)) ∙ e.node n h;
 }
@@ -39,6 +45,8 @@ adds_node known s = record {
   notes = refl;
   contexts = omega arith;
   context = λ c h. refl;
+  equalities = omega arith;
+  equality = λ e h. refl;
   nodes = omega (arith, length_push known.nodes s);
   node = λ n h. get_or_append_left known.nodes (s ∷ []) no_judgement n h;
 }
@@ -49,6 +57,20 @@ adds_context known ctx = record {
   notes = refl;
   contexts = omega (arith, length_push known.contexts ctx);
   context = λ c h. get_or_append_left known.contexts (ctx ∷ []) Nil c h;
+  equalities = omega arith;
+  equality = λ e h. refl;
+  nodes = omega arith;
+  node = λ n h. refl;
+}
+
+pub adds_equality : (known : Known) (q : Equality) → Adds known (with_equality known q)
+adds_equality known q = record {
+  env = refl;
+  notes = refl;
+  contexts = omega arith;
+  context = λ c h. refl;
+  equalities = omega (arith, length_push known.equalities q);
+  equality = λ e h. get_or_append_left known.equalities (q ∷ []) no_equality e h;
   nodes = omega arith;
   node = λ n h. refl;
 }
@@ -61,6 +83,9 @@ knows_later a b j s adds h = record { live = omega (arith, adds.nodes, h.live); 
 
 pub knows_context_later : (a b : Known) (c : CtxId) (ctx : Trees) → Adds a b → KnowsContext a c ctx → KnowsContext b c ctx
 knows_context_later a b c ctx adds h = record { live = omega (arith, adds.contexts, h.live); is = adds.context c.0 h.live ∙ h.is }
+
+pub knows_equality_later : (a b : Known) (e : EqId) (q : Equality) → Adds a b → KnowsEquality a e q → KnowsEquality b e q
+knows_equality_later a b e q adds h = record { live = omega (arith, adds.equalities, h.live); is = adds.equality e.0 h.live ∙ h.is }
 
 -- what the last number stands for
 pub last_known : (known : Known) (s : Judgement) (n : ℕ) → n ≡ length known.nodes → Knows (with_node known s) (record { 0 = n }) s
@@ -75,11 +100,20 @@ last_context known ctx n e = record {
   is = get_or_at known.contexts ctx [] Nil n (sym e);
 }
 
+pub last_equality : (known : Known) (q : Equality) (n : ℕ) → n ≡ length known.equalities → KnowsEquality (with_equality known q) (record { 0 = n }) q
+last_equality known q n e = record {
+  live = omega (arith, length_push known.equalities q);
+  is = get_or_at known.equalities q [] no_equality n (sym e);
+}
+
 pub knows_by : (a b : Known) (j : JudgeId) (s : Judgement) → b ≡ a → Knows a j s → Knows b j s
 knows_by a b j s e h = let P : Known → Type 0 = λ k. Knows k j s in subst P (sym e) h
 
 pub knows_context_by : (a b : Known) (c : CtxId) (ctx : Trees) → b ≡ a → KnowsContext a c ctx → KnowsContext b c ctx
 knows_context_by a b c ctx e h = let P : Known → Type 0 = λ k. KnowsContext k c ctx in subst P (sym e) h
+
+pub knows_equality_by : (a b : Known) (e : EqId) (q : Equality) → b ≡ a → KnowsEquality a e q → KnowsEquality b e q
+knows_equality_by a b e q same h = let P : Known → Type 0 = λ k. KnowsEquality k e q in subst P (sym same) h
 
 -- Contexts and judgements stay, and entries are added.
 pub record Grows (old new : Known) : Type 0 where
@@ -128,6 +162,8 @@ grows_flag known j = record { contexts = omega arith; context = λ c h. refl; no
 
 pub grows_kept : (items : List Item) (known : Known) (k : Kept) → Grows known (with_kept items known k)
 grows_kept items known (Context c t) = grows_by_adding known (with_kept items known (Context c t)) (adds_context known (context_at known c.0 ▸ tree_at items t))
+grows_kept items known (Equal left right step) =
+    grows_by_adding known (with_kept items known (Equal left right step)) (adds_equality known (equality_of items known left right step))
 grows_kept items known (Node judge step) = grows_by_adding known (with_kept items known (Node judge step)) (adds_node known (judgement_of items known judge))
 grows_kept items known (Entry name j prim) = grows_entry known (entry_by prim name (judgement_at known j.0))
 grows_kept items known (Flag j) = grows_flag known (judgement_at known j.0)
@@ -163,6 +199,7 @@ judged_at : (items : List Item) (known : Known) (ks : List Kept) (i : ℕ) (d : 
     → IsNodeOf items (known_after items known ks) (get_or (judges_of ks) i d) (record { 0 = length known.nodes + i })
 judged_at items known [] i d h l = absurd (omega arith)
 judged_at items known (Context c t ∷ ks) i d h l = judged_at items (with_kept items known (Context c t)) ks i d h.1 l
+judged_at items known (Equal left right step ∷ ks) i d h l = judged_at items (with_kept items known (Equal left right step)) ks i d h.1 l
 judged_at items known (Node judge step ∷ ks) zero d h l =
     let P : ℕ → Type 0 = λ n. IsNodeOf items (known_after items known (Node judge step ∷ ks)) judge (record { 0 = n }) in
     subst P (sym (add-zero (length known.nodes))) (first_judged items known judge step ks h.0)
@@ -207,6 +244,7 @@ pub kind_at : (items : List Item) (known : Known) (ks : List Kept) (i : ℕ) (d 
     → IsKind (get_or (prims_of ks) i d) (entry_at (known_after items known ks).env (length known.env + i)).body
 kind_at items known [] i d l = absurd (omega arith)
 kind_at items known (Context c t ∷ ks) i d l = kind_at items (with_kept items known (Context c t)) ks i d l
+kind_at items known (Equal left right step ∷ ks) i d l = kind_at items (with_kept items known (Equal left right step)) ks i d l
 kind_at items known (Node judge step ∷ ks) i d l = kind_at items (with_kept items known (Node judge step)) ks i d l
 kind_at items known (Flag j ∷ ks) i d l = kind_at items (with_kept items known (Flag j)) ks i d l
 kind_at items known (Entry name j prim ∷ ks) zero d l =
@@ -221,6 +259,7 @@ kind_at items known (Entry name j prim ∷ ks) (suc i) d l =
 pub length-env : (items : List Item) (known : Known) (ks : List Kept) → length (known_after items known ks).env ≡ length known.env + length (prims_of ks)
 length-env items known [] = sym (add-zero (length known.env))
 length-env items known (Context c t ∷ ks) = length-env items (with_kept items known (Context c t)) ks
+length-env items known (Equal left right step ∷ ks) = length-env items (with_kept items known (Equal left right step)) ks
 length-env items known (Node judge step ∷ ks) = length-env items (with_kept items known (Node judge step)) ks
 length-env items known (Flag j ∷ ks) = length-env items (with_kept items known (Flag j)) ks
 length-env items known (Entry name j prim ∷ ks) =
@@ -246,8 +285,15 @@ judgement_later old new known judge e h =
     ap (λ (x : Item). record (judgement_of new known judge) { term = tree x }) (e.kept judge.term h.term.live)
     ∙ ap (λ (y : Item). record (judgement_of old known judge) { type = tree y }) (e.kept judge.of h.of.live)
 
+equality_later : (old new : List Item) (known : Known) (left right : TermId) (step : EqStep) → Extends old new → FitsEqual old known left right step
+    → equality_of new known left right step ≡ equality_of old known left right step
+equality_later old new known left right step e h =
+    ap (λ (x : Item). record { left = tree x; right = tree_at new right; bound = bound_by known (tree x) (eq_rule_of step) }) (e.kept left h.left_there.live)
+    ∙ ap (λ (y : Item). record (equality_of old known left right step) { right = tree y }) (e.kept right h.right_there.live)
+
 kept_later : (old new : List Item) (known : Known) (k : Kept) → Extends old new → Fits old known k → with_kept new known k ≡ with_kept old known k
 kept_later old new known (Context c t) e h = ap (λ (x : Item). with_context known (context_at known c.0 ▸ tree x)) (e.kept t h.term.live)
+kept_later old new known (Equal left right step) e h = ap (with_equality known) (equality_later old new known left right step e h)
 kept_later old new known (Node judge step) e h = ap (with_node known) (judgement_later old new known judge e h.numbers)
 kept_later old new known (Entry name j prim) e h = refl
 kept_later old new known (Flag j) e h = refl
@@ -265,6 +311,14 @@ fits_later : (old new : List Item) (known : Known) (k : Kept) → Extends old ne
 fits_later old new known (Context c t) e h =
     let J : Item → Type 0 = λ x. IsJudged known (tree x) in
     record { context = h.context; term = term_at_later old new t e h.term; judged = subst J (sym (e.kept t h.term.live)) h.judged }
+fits_later old new known (Equal left right step) e h =
+    let P : Item → Type 0 = λ x. FollowsEqual known (tree x) (tree_at old right) step in
+    let Q : Item → Type 0 = λ y. FollowsEqual known (tree_at new left) (tree y) step in
+    record {
+      left_there = term_at_later old new left e h.left_there;
+      right_there = term_at_later old new right e h.right_there;
+      follows = subst Q (sym (e.kept right h.right_there.live)) (subst P (sym (e.kept left h.left_there.live)) h.follows);
+    }
 fits_later old new known (Node judge step) e h =
     let Q : Judgement → Type 0 = λ q. Follows known q step in
     record {

@@ -3,10 +3,11 @@ pub mod Keeping
 pub mod Growing
 pub mod Lifting
 pub mod Rules
+pub mod Judged
+pub mod Equals
 pub mod Prefixes
 pub mod Holding
 pub mod Arguments
 pub mod Derived
 pub mod Named
 pub mod CallerLemmas
-pub mod Judged

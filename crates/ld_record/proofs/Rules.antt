@@ -123,6 +123,13 @@ module _ (known : Known) where
       follows_as s (record { entries = s.entries; context = s.context; term = Lam h.domain f.term; type = Pi h.domain f.type }) (Rule.Abst n.0 m.0)
       (parts s s.entries s.context (Lam h.domain f.term) (Pi h.domain f.type) refl refl h.term h.type)
       (FollowsBy.abst h.sort (parts f s.entries (s.context ▸ h.domain) f.term f.type h.first.entries h.inner refl refl) (parts g s.entries s.context (Pi h.domain f.type) g.type h.second.entries h.outer h.product refl))
+  follows_by s (step.Conv n m e) h =
+      let f = At n.0 in
+      let g = At m.0 in
+      follows_as s (record { entries = s.entries; context = s.context; term = f.term; type = g.term }) (Rule.Conv n.0 m.0 e.0)
+      (parts s s.entries s.context f.term g.term refl refl h.term h.type)
+      (FollowsBy.conv h.sort (parts f s.entries s.context f.term f.type h.first.entries h.typed refl refl) (parts g s.entries s.context g.term g.type h.second.entries h.wanted refl refl)
+      (h.left, h.right ∙ h.type) h.bound)
   follows_by s (step.Def n) h =
       let f = At n.0 in
       let body = has_body (entry_at known.env f.entries).body h.body in
@@ -156,6 +163,7 @@ premises_there state s (step.Weak n m) h = (h.first.live, h.second.live)
 premises_there state s (step.Form n m) h = (h.first.live, h.second.live)
 premises_there state s (step.Appl n m) h = (h.first.live, h.second.live)
 premises_there state s (step.Abst n m) h = (h.first.live, h.second.live)
+premises_there state s (step.Conv n m e) h = (h.first.live, h.second.live, h.live)
 premises_there state s (step.Def n) h = h.over.live
 premises_there state s (step.DefPrim n) h = h.over.live
 premises_there state s (step.Inst n ns) h = (h.instance.star.live, h.instance.live)

@@ -1,14 +1,15 @@
 -- When a judgement follows from earlier ones by a rule, as facts about its parts. The relation that reads like the rule
 -- table is FollowsBy of ld_terms, to which each of these leads.
-use Rattle.std.specs.Prelude.{◌≡◌, ℕ, ◌+◌, ◌<◌, List, [], length, map, slice_index_or}
+use Rattle.std.specs.Prelude.{◌≡◌, ℕ, ◌+◌, ◌<◌, ◌≤◌, List, [], length, map, slice_index_or}
 use Rattle.std.specs.List.{AllByRecursion}
 use Rattle.ld_terms.specs.Tree.{Tree, Star, Box, Var, App, Lam, Pi, Const, Trees, Nil, ◌▸◌}
 use Rattle.ld_terms.specs.Put.{lift, put}
 use Rattle.ld_terms.specs.Entry.{Entry, Body, Defined, Primitive, Env}
 use Rattle.ld_terms.specs.Derivable.{IsSort}
-use Rattle.ld_terms.specs.Known.{Known, Judgement, judgement_at, no_judgement, primitive_entry, IsNode, JudgeArguments}
+use Rattle.ld_terms.specs.Known.{Known, Judgement, equality_at, judgement_at, no_judgement, primitive_entry, IsNode, JudgeArguments}
 use Rattle.ld_terms.specs.Rule.{Rule}
 use Rattle.ld_record.specs.declared.record.JudgeId.{JudgeId}
+use Rattle.ld_record.specs.declared.record.EqId.{EqId}
 use Rattle.ld_record.specs.declared.record.Step.{Step}
 use Rattle.ld_record.specs.declared.record.Step.TheVariants as step
 
@@ -22,6 +23,7 @@ rule_of (step.Weak n m) = Rule.Weak n.0 m.0
 rule_of (step.Form n m) = Rule.Form n.0 m.0
 rule_of (step.Appl n m) = Rule.Appl n.0 m.0
 rule_of (step.Abst n m) = Rule.Abst n.0 m.0
+rule_of (step.Conv n m e) = Rule.Conv n.0 m.0 e.0
 rule_of (step.Def n) = Rule.Def n.0
 rule_of (step.DefPrim n) = Rule.DefPrim n.0
 rule_of (step.Inst n ns) = Rule.Inst n.0 (numbers_of ns)
@@ -94,6 +96,20 @@ pub record ByAbst (known : Known) (s : Judgement) (n m : JudgeId) : Type 0 where
   pub term : s.term ≡ Lam domain (judgement_at known n.0).term
   pub type : s.type ≡ Pi domain (judgement_at known n.0).type
 
+-- the first premise has a type that is equal to the term of the second, by entries that are there
+pub record ByConv (known : Known) (s : Judgement) (n m : JudgeId) (e : EqId) : Type 0 where
+  pub first : IsPremise known s n
+  pub second : IsPremise known s m
+  pub live : e.0 < length known.equalities
+  pub typed : (judgement_at known n.0).context ≡ s.context
+  pub wanted : (judgement_at known m.0).context ≡ s.context
+  pub sort : IsSort (judgement_at known m.0).type
+  pub left : (equality_at known e.0).left ≡ (judgement_at known n.0).type
+  pub right : (equality_at known e.0).right ≡ s.type
+  pub bound : (equality_at known e.0).bound ≤ s.entries
+  pub term : s.term ≡ (judgement_at known n.0).term
+  pub type : s.type ≡ (judgement_at known m.0).term
+
 -- the same judgement over one entry less, which has a body or is a primitive
 pub record Over (known : Known) (s : Judgement) (n : JudgeId) : Type 0 where
   pub live : n.0 < length known.nodes
@@ -138,6 +154,7 @@ Follows known s (step.Weak n m) = ByWeak known s n m
 Follows known s (step.Form n m) = ByForm known s n m
 Follows known s (step.Appl n m) = ByAppl known s n m
 Follows known s (step.Abst n m) = ByAbst known s n m
+Follows known s (step.Conv n m e) = ByConv known s n m e
 Follows known s (step.Def n) = ByDef known s n
 Follows known s (step.DefPrim n) = ByDefPrim known s n
 Follows known s (step.Inst n ns) = ByInst known s n ns

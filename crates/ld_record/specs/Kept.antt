@@ -4,15 +4,17 @@ use Rattle.ld_terms.specs.Tree.{Tree, ◌▸◌}
 use Rattle.ld_terms.specs.Item.{Item}
 use Rattle.ld_terms.specs.Bank.{tree_at, IsTermAt}
 use Rattle.ld_terms.specs.Entry as named
-use Rattle.ld_terms.specs.Known.{Known, nothing, Judgement, context_at, judgement_at, line_entry, primitive_entry, MayBeLine, MayBePrimitive, MayBeFlag, with_context, with_node, with_entry, with_flag}
+use Rattle.ld_terms.specs.Known.{Known, nothing, Equality, Judgement, context_at, judgement_at, line_entry, primitive_entry, bound_by, MayBeLine, MayBePrimitive, MayBeFlag, with_context, with_equality, with_node, with_entry, with_flag}
 use Rattle.ld_terms.specs.declared.bank.TermId.{TermId}
 use Rattle.ld_record.specs.declared.record.JudgeId.{JudgeId}
 use Rattle.ld_record.specs.declared.record.CtxId.{CtxId}
 use Rattle.ld_record.specs.declared.record.Judge.{Judge}
+use Rattle.ld_record.specs.declared.record.EqStep.{EqStep}
 use Rattle.ld_record.specs.declared.record.Step.{Step}
 use Rattle.ld_record.specs.declared.record.Kept.{Kept}
-use Rattle.ld_record.specs.declared.record.Kept.TheVariants.{Context, Node, Entry, Flag}
+use Rattle.ld_record.specs.declared.record.Kept.TheVariants.{Context, Equal, Node, Entry, Flag}
 use Rattle.ld_record.specs.Follows.{Follows}
+use Rattle.ld_record.specs.Equal.{eq_rule_of, FollowsEqual}
 
 -- the judgement that a record's numbers stand for
 abbrev pub judgement_of : List Item → Known → Judge → Judgement
@@ -23,6 +25,14 @@ judgement_of items known judge = record {
   type = tree_at items judge.of;
 }
 
+-- the equality that the numbers of two terms stand for
+abbrev pub equality_of : List Item → Known → (left right : TermId) → EqStep → Equality
+equality_of items known left right step = record {
+  left = tree_at items left;
+  right = tree_at items right;
+  bound = bound_by known (tree_at items left) (eq_rule_of step);
+}
+
 -- the entry of a primitive, or of a line
 abbrev pub entry_by : (prim : Bool) → List ℕ → Judgement → named.Entry
 entry_by true name j = primitive_entry name j
@@ -30,6 +40,7 @@ entry_by false name j = line_entry name j
 
 abbrev pub with_kept : List Item → Known → Kept → Known
 with_kept items known (Context c t) = with_context known (context_at known c.0 ▸ tree_at items t)
+with_kept items known (Equal left right step) = with_equality known (equality_of items known left right step)
 with_kept items known (Node judge step) = with_node known (judgement_of items known judge)
 with_kept items known (Entry name j prim) = with_entry known (entry_by prim name (judgement_at known j.0))
 with_kept items known (Flag j) = with_flag known (judgement_at known j.0)
@@ -53,6 +64,12 @@ pub record FitsContext (items : List Item) (known : Known) (c : CtxId) (t : Term
   pub context : c.0 < length known.contexts
   pub term : IsTermAt items t
   pub judged : IsJudged known (tree_at items t)
+
+-- two terms are equal by the rule
+pub record FitsEqual (items : List Item) (known : Known) (left right : TermId) (step : EqStep) : Type 0 where
+  pub left_there : IsTermAt items left
+  pub right_there : IsTermAt items right
+  pub follows : FollowsEqual known (tree_at items left) (tree_at items right) step
 
 -- the numbers are those of terms, of a context and of entries
 pub record HasNumbers (items : List Item) (known : Known) (judge : Judge) : Type 0 where
@@ -80,6 +97,7 @@ pub record FitsFlag (known : Known) (j : JudgeId) : Type 0 where
 -- a record meets its condition over what is known
 abbrev pub Fits : List Item → Known → Kept → Type 0
 Fits items known (Context c t) = FitsContext items known c t
+Fits items known (Equal left right step) = FitsEqual items known left right step
 Fits items known (Node judge step) = FitsNode items known judge step
 Fits items known (Entry name j prim) = FitsEntry known name j prim
 Fits items known (Flag j) = FitsFlag known j

@@ -1,4 +1,5 @@
 pub mod Follows
+pub mod Equal
 pub mod Kept
 pub mod Tables
 pub mod Growth

@@ -3,9 +3,9 @@ ghost use Rattle.std.specs.Prelude.{◌≡◌, ◌≤◌, ◌++◌, ◌∷◌, �
 ghost use Rattle.ld_terms.specs.Item.{Item};
 ghost use Rattle.ld_terms.specs.Bank.{tree_at};
 ghost use Rattle.ld_terms.specs.Tree.{◌▸◌};
-ghost use Rattle.ld_terms.specs.Known.{context_at, judgement_at, with_node, with_entry, with_context, with_flag};
+ghost use Rattle.ld_terms.specs.Known.{context_at, judgement_at, with_node, with_entry, with_context, with_equality, with_flag};
 
-use crate::record::{CtxId, Judge, JudgeId, Kept, Step};
+use crate::record::{CtxId, EqId, EqStep, Judge, JudgeId, Kept, Step};
 use fb_base::{NoMemory, Text};
 use ld_terms::{Bank, TermId};
 use std::alloc::Global;
@@ -15,10 +15,11 @@ use std::marker::Model;
 #[derive(Debug, Drop)]
 pub struct Deriv {
     kept: Vec<Kept>,
-    // tables over the records: the judgements, whether each entry is a primitive, and how many contexts there are
+    // tables over the records: the judgements, whether each entry is a primitive, and how many contexts and equalities there are
     judges: Vec<Judge>,
     prims: Vec<bool>,
     contexts: usize,
+    equalities: usize,
 }
 
 impl Model for Deriv {
@@ -31,12 +32,12 @@ impl Model for Deriv {
 
     ghost view = { λ d. d.kept.items };
 
-    ghost invariant = { λ d. AreTables d.kept.items d.judges.items d.prims.items d.contexts };
+    ghost invariant = { λ d. AreTables d.kept.items d.judges.items d.prims.items d.contexts d.equalities };
 }
 
 impl Deriv {
-    ghost use Rattle.ld_record.specs.Kept.{known_of, judgement_of, entry_by, IsSound, FitsContext, FitsNode, FitsEntry, FitsFlag, Begins};
-    ghost use Rattle.ld_record.specs.Growth.{Knows, KnowsContext, IsNodeOf, Adds, over_first, LeadsOver};
+    ghost use Rattle.ld_record.specs.Kept.{known_of, judgement_of, equality_of, entry_by, IsSound, FitsContext, FitsEqual, FitsNode, FitsEntry, FitsFlag, Begins};
+    ghost use Rattle.ld_record.specs.Growth.{Knows, KnowsContext, KnowsEquality, IsNodeOf, Adds, over_first, LeadsOver};
 
     /// A derivation with no records.
     pub fn new(alloc: Global) -> Deriv
@@ -48,6 +49,7 @@ impl Deriv {
             judges: Vec::new(alloc),
             prims: Vec::new(alloc),
             contexts: 0,
+            equalities: 0,
         }
     }
 
@@ -89,6 +91,33 @@ impl Deriv {
         self.kept.push(Kept::Context(ctx, t)).map_err(|_| NoMemory)?;
         self.contexts += 1;
         Ok(CtxId(self.contexts))
+    }
+
+    /// Keeps two terms that are equal by a rule.
+    pub fn emit_eq(
+        &mut self,
+        bank: &Bank,
+        left: TermId,
+        right: TermId,
+        step: EqStep,
+    ) -> Result<EqId, NoMemory>
+        requires sound { IsSound bank.now self.old }
+        requires fits { FitsEqual bank.now (known_of bank.now self.old) left right step }
+        ensures known { OnOk result (known_of bank.now self.new
+            ≡ with_equality (known_of bank.now self.old) (equality_of bank.now (known_of bank.now self.old) left right step)) }
+        ensures number { IfOk result (λ e. KnowsEquality (known_of bank.now self.new) e (equality_of bank.now (known_of bank.now self.old) left right step)) }
+        ensures adds { Adds (known_of bank.now self.old) (known_of bank.now self.new) }
+        ensures sound { IsSound bank.now self.new }
+        ensures kept { OnOk result (self.new ≡ self.old ++ Kept.Equal left right step ∷ []) }
+        ensures begins { Begins self.old self.new }
+        ensures err { OnErr result (self.new ≡ self.old) }
+    {
+        self.kept
+            .push(Kept::Equal(left, right, step))
+            .map_err(|_| NoMemory)?;
+        let number = self.equalities;
+        self.equalities += 1;
+        Ok(EqId(number))
     }
 
     /// Keeps a judgement that follows from earlier ones by a rule.

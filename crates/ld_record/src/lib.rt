@@ -8,4 +8,4 @@ mod record;
 mod tests;
 
 pub use deriv::Deriv;
-pub use record::{CtxId, Judge, JudgeId, Judges, Kept, Step};
+pub use record::{CtxId, EqId, EqStep, Eqs, Judge, JudgeId, Judges, Kept, Step};

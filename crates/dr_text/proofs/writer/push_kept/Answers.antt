@@ -4,7 +4,7 @@ use Rattle.ld_terms.specs.Record.{Record}
 use Rattle.ld_record.specs.declared.record.Kept.{Kept}
 use Rattle.dr_text.specs.Written.{Pushes, WritesKept}
 use Rattle.dr_text.proofs.Records.{pushes_plain}
-use Rattle.dr_text.proofs.Carrying.{context_written, node_written, entry_written, flag_written}
+use Rattle.dr_text.proofs.Carrying.{context_written, equal_written, node_written, entry_written, flag_written}
 use Rattle.dr_text.proofs.writer.push_kept.Goals as goal
 
 pub returns-in_ok-t-in-Context : goal.returns-in_ok-t-in-Context
@@ -17,6 +17,15 @@ returns-in_ok-t-in-Context c =
     (c.in_ok-t-in-Context.ensures {u = tt})
     (subst Q c.number.ensures (pushes_plain _ _ (Record.Context c.number.result c.in_ok-t-in-Context.t) refl refl bytes c.push_record.ensures.range))))
     c.push_record.ensures.bytes
+
+pub returns-in_ok-right-in-Equal : goal.returns-in_ok-right-in-Equal
+returns-in_ok-right-in-Equal c =
+    let P : Kept → Type 0 = λ k. WritesKept c.args.bank.now c.args.terms.now c.number_of-in-Equal-2.new.self c.args.out.now.items c.push_equal.new.out.items k in
+    on_ok_weaker c.push_equal.result
+    (λ pushes. subst P (sym c.in-Equal.is)
+    (equal_written c.args.bank.now c.args.terms.now c.number_of-in-Equal.new.self c.number_of-in-Equal-2.new.self _ c.number_of-in-Equal.new.out.items c.number_of-in-Equal-2.new.out.items _
+    c.in-Equal.left c.in-Equal.right c.in-Equal.step c.in_ok-left-in-Equal.left c.in_ok-right-in-Equal.right (c.in_ok-left-in-Equal.ensures {u = tt}) (c.in_ok-right-in-Equal.ensures {u = tt}) pushes))
+    c.push_equal.ensures
 
 pub returns-in_ok-of-in-Node : goal.returns-in_ok-of-in-Node
 returns-in_ok-of-in-Node c =

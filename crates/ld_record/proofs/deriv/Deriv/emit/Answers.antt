@@ -21,7 +21,7 @@ now c =
 pub invariant_of-self-else-is_err : goal.invariant_of-self-else-is_err
 invariant_of-self-else-is_err c =
     let judges : c.push.new.self.items ≡ c.self.inside.judges.items ++ c.args.judge ∷ [] = grind (arith, common_steps) in
-    tables_push _ _ _ _ _ _ _ _ (Node c.args.judge c.args.step) c.self.invariant (pushed c) judges (grind (arith, common_steps)) (omega arith)
+    tables_push _ _ _ _ _ _ _ _ _ _ (Node c.args.judge c.args.step) c.self.invariant (pushed c) judges (grind (arith, common_steps)) (omega arith) (omega arith)
 
 pub returns-clause-known : goal.returns-clause-known
 returns-clause-known c = (now c).known

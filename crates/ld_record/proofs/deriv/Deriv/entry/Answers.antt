@@ -17,7 +17,7 @@ now c =
 pub invariant_of-self-else-is_err : goal.invariant_of-self-else-is_err
 invariant_of-self-else-is_err c =
     let prims : c.push.new.self.items ≡ c.self.inside.prims.items ++ c.args.prim ∷ [] = grind (arith, common_steps) in
-    tables_push _ _ _ _ _ _ _ _ (Entry c.args.name c.args.of_item c.args.prim) c.self.invariant (pushed c) (grind (arith, common_steps)) prims (omega arith)
+    tables_push _ _ _ _ _ _ _ _ _ _ (Entry c.args.name c.args.of_item c.args.prim) c.self.invariant (pushed c) (grind (arith, common_steps)) prims (omega arith) (omega arith)
 
 pub returns-clause-known : goal.returns-clause-known
 returns-clause-known c = (now c).known

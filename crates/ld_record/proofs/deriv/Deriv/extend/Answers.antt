@@ -32,7 +32,7 @@ overflow_add-self c =
 
 pub invariant_of-self-2 : goal.invariant_of-self-2
 invariant_of-self-2 c =
-    tables_push _ _ _ _ _ _ _ _ (Context c.args.ctx c.args.t) c.self.invariant (pushed c) (grind (arith, common_steps)) (grind (arith, common_steps)) refl
+    tables_push _ _ _ _ _ _ _ _ _ _ (Context c.args.ctx c.args.t) c.self.invariant (pushed c) (grind (arith, common_steps)) (grind (arith, common_steps)) refl (omega arith)
 
 pub returns-clause-known : goal.returns-clause-known
 returns-clause-known c = (now c).known

@@ -16,7 +16,7 @@ now c =
 
 pub invariant_of-self-2 : goal.invariant_of-self-2
 invariant_of-self-2 c =
-    tables_push _ _ _ _ _ _ _ _ (Flag c.args.of_item) c.self.invariant (pushed c) (grind (arith, common_steps)) (grind (arith, common_steps)) (omega arith)
+    tables_push _ _ _ _ _ _ _ _ _ _ (Flag c.args.of_item) c.self.invariant (pushed c) (grind (arith, common_steps)) (grind (arith, common_steps)) (omega arith) (omega arith)
 
 pub returns-clause-known : goal.returns-clause-known
 returns-clause-known c = (now c).known
