@@ -72,7 +72,7 @@ said items known judge s h =
     ∙ ap (λ (x : Item). record (judgement_of items known judge) { entries = s.entries; context = s.context; term = tree x }) h.term.item
     ∙ ap (λ (x : Item). record s { type = tree x }) h.type.item
 
-term_there : (items : List Item) (t : TermId) (u : Tree) → StandsFor items t u → IsTermAt items t
+pub term_there : (items : List Item) (t : TermId) (u : Tree) → StandsFor items t u → IsTermAt items t
 term_there items t u h = record { live = h.live; form = subst IsOne (sym h.item) tt }
 
 -- a record may be kept where what its numbers stand for follows by its rule

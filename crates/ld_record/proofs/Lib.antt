@@ -11,3 +11,4 @@ pub mod Arguments
 pub mod Derived
 pub mod Named
 pub mod CallerLemmas
+pub mod Following

@@ -4,3 +4,4 @@ pub mod Kept
 pub mod Tables
 pub mod Growth
 pub mod Laws
+pub mod Tests

@@ -24,14 +24,14 @@ fn nothing_is_kept(rt: HostRuntime) {
 }
 
 // The number of a new term, which is `*`; of one which is `box`, the instance `A`, the product of `A` and `A`.
-fn star(bank: &mut Bank) -> Result<TermId, TermFault>
+pub(crate) fn star(bank: &mut Bank) -> Result<TermId, TermFault>
     ensures tree { IfOk result (λ t. StandsFor bank.new t tree.Star) }
     ensures kept { Extends bank.old bank.new }
 {
     bank.add(Node::Star)
 }
 
-fn box_sort(bank: &mut Bank) -> Result<TermId, TermFault>
+pub(crate) fn box_sort(bank: &mut Bank) -> Result<TermId, TermFault>
     ensures tree { IfOk result (λ t. StandsFor bank.new t tree.Box) }
     ensures kept { Extends bank.old bank.new }
 {
@@ -55,7 +55,7 @@ fn product(bank: &mut Bank, a: TermId) -> Result<TermId, TermFault>
 }
 
 // `* : box` over no entries.
-fn start(
+pub(crate) fn start(
     deriv: &mut Deriv,
     bank: &Bank,
     star: TermId,
