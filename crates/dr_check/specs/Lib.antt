@@ -1,3 +1,4 @@
 pub mod Codes
 pub mod Stage
 pub mod Rules
+pub mod Filling

@@ -1,9 +1,7 @@
 -- What a checker has come to, over the items of its bank.
-use Rattle.std.specs.Prelude.{◌≡◌, ◌<◌, ℕ, List, [], ◌∷◌, length, map, slice_index_or, All}
-use Rattle.ld_terms.specs.Tree.{Trees}
+use Rattle.std.specs.Prelude.{◌<◌, ℕ, List, [], length, map, slice_index_or, All}
 use Rattle.ld_terms.specs.Item.{Item}
 use Rattle.ld_terms.specs.Bank.{tree_at, list_at, IsTermAt, IsListAt}
-use Rattle.ld_terms.specs.Entry as named
 use Rattle.ld_terms.specs.Entry.{Env}
 use Rattle.ld_terms.specs.Known.{Known, Note, FlagNote, EntryNote, Equality, Judgement, no_judgement, primitive_entry}
 use Rattle.ld_terms.specs.Record.{State}

@@ -3,3 +3,4 @@
 
 mod checker;
 mod rules;
+mod shape;
