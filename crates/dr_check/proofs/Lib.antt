@@ -1,0 +1,4 @@
+pub mod Comparing
+pub mod Deciding
+pub mod Equating
+pub mod EqualBy

@@ -2,3 +2,4 @@ pub mod Codes
 pub mod Stage
 pub mod Rules
 pub mod Filling
+pub mod Entered

@@ -2,5 +2,8 @@
 #![tactic(auto)]
 
 mod checker;
+mod compare;
+mod equal;
+mod known;
 mod rules;
 mod shape;
