@@ -2,3 +2,4 @@ pub mod Comparing
 pub mod Deciding
 pub mod Equating
 pub mod EqualBy
+pub mod Growing

@@ -1,10 +1,13 @@
 -- What a checker has come to, over the items of its bank.
-use Rattle.std.specs.Prelude.{◌<◌, ℕ, List, [], length, map, slice_index_or, All}
-use Rattle.ld_terms.specs.Item.{Item}
+use Rattle.std.specs.Prelude.{◌≡◌, ◌<◌, ℕ, Bool, true, false, List, [], length, map, slice_index_or, All, Some, Result, Ok, Err}
+use Rattle.ld_terms.specs.Tree.{Tree}
+use Rattle.ld_terms.specs.Item.{Item, One, IsSmall}
 use Rattle.ld_terms.specs.Bank.{tree_at, list_at, IsTermAt, IsListAt}
-use Rattle.ld_terms.specs.Entry.{Env}
-use Rattle.ld_terms.specs.Known.{Known, Note, FlagNote, EntryNote, Equality, Judgement, no_judgement, primitive_entry}
-use Rattle.ld_terms.specs.Record.{State}
+use Rattle.ld_terms.specs.Entry.{Entry, Env}
+use Rattle.ld_terms.specs.Known.{Known, Note, FlagNote, EntryNote, Equality, Judgement, no_judgement, line_entry, primitive_entry}
+use Rattle.ld_terms.specs.Record.{State, with_term}
+use Rattle.ld_terms.specs.declared.bank.TermFault.{TermFault}
+use Rattle.ld_terms.specs.declared.bank.TermFault.TheVariants.{High, Memory}
 use Rattle.ld_terms.specs.declared.bank.TermId.{TermId}
 use Rattle.ld_env.specs.Named.{Named}
 use Rattle.ld_env.specs.Entries.{env_of, AreLive}
@@ -68,3 +71,14 @@ pub record AreTables (items : List Item) (entries : List Named) (terms contexts 
   pub equalities_are : All (IsEquatedAt items) equalities
   pub nodes_are : All (IsJudgedAt items) nodes
   pub notes_are : All (IsNoted (length nodes) (length entries)) notes
+
+-- A term is added, or refused exactly where it isn't small.
+abbrev pub AddsTerm : {T : Type 0} → (old new : State) → Tree → Result T TermFault → Type 0
+AddsTerm old new t (Ok v) = IsSmall (One t) × (new ≡ with_term old (Some t))
+AddsTerm old new t (Err High) = ¬ IsSmall (One t) × (new ≡ old)
+AddsTerm old new t (Err Memory) = new ≡ old
+
+-- the entry of a primitive, or of a line
+abbrev pub entry_by : (prim : Bool) → List ℕ → Judgement → Entry
+entry_by true name j = primitive_entry name j
+entry_by false name j = line_entry name j

@@ -1,13 +1,18 @@
 //! What the records of a file have made so far.
-ghost use Rattle.std.specs.Prelude.{◌≡◌, ◌<◌, length, slice_get, IfOk, Some};
-ghost use Rattle.ld_terms.specs.Bank.{tree_at, list_at, IsTermAt, IsListAt};
-ghost use Rattle.ld_terms.specs.Known.{context_at, equality_at, judgement_at};
-ghost use Rattle.ld_terms.specs.Record.{start, term_at};
-ghost use Rattle.ld_env.specs.Entries.{env_of, AreLive};
+ghost use Rattle.std.specs.Prelude.{◌≡◌, ◌<◌, ◌+◌, ◌^◌, ℕ, List, length, map, slice_get, IfOk, OnOk, OnErr, Some, All};
+ghost use Rattle.std.specs.List.{AllByRecursion};
+ghost use Rattle.ld_terms.specs.Tree.{Const, Nil, ◌▸◌};
+ghost use Rattle.ld_terms.specs.Item.{IsOne, IsMany, IsSmall, tree, list};
+ghost use Rattle.ld_terms.specs.Bank.{tree_at, list_at, listed, item_of, HasParts, IsTermAt, IsListAt, Extends, Holds};
+ghost use Rattle.ld_terms.specs.Known.{context_at, equality_at, judgement_at, trees, with_context, with_equality, with_node, with_flag, with_entry};
+ghost use Rattle.ld_terms.specs.Record.{start, term_at, IsTerm};
+ghost use Rattle.ld_env.specs.Named.{named};
+ghost use Rattle.ld_env.specs.Entries.{env_of, entry_of, AreLive, IsLiveEntry};
+ghost use Rattle.dr_check.specs.Stage.{judgement_of, equality_of, IsJudgedAt, IsEquatedAt, AddsTerm, entry_by};
 
-use fb_base::NoMemory;
-use ld_env::Env;
-use ld_terms::{Bank, Node, TermId};
+use fb_base::{NoMemory, Text};
+use ld_env::{Entry, Env};
+use ld_terms::{Bank, Node, TermFault, TermId, Terms};
 use std::alloc::Global;
 use std::marker::Model;
 
@@ -64,8 +69,6 @@ impl Model for Checker {
 }
 
 impl Checker {
-    ghost use Rattle.dr_check.specs.Stage.{judgement_of, equality_of, IsJudgedAt, IsEquatedAt};
-
     /// Nothing is made.
     pub fn new(alloc: Global) -> Result<Checker, NoMemory>
         ensures { IfOk result (λ c. c.state ≡ start) }
@@ -135,4 +138,181 @@ impl Checker {
     {
         self.nodes[number]
     }
+
+    // Adds a term or a list to the bank, under no number of the file.
+    fn keep(&mut self, node: Node) -> Result<TermId, TermFault>
+        requires { HasParts self.old.items node }
+        ensures item { IfOk result (λ t. Holds self.new.items t (item_of self.old.items node)) }
+        ensures kept { Extends self.old.items self.new.items }
+        ensures small { OnOk result (IsSmall (item_of self.old.items node)) }
+        ensures high { result ≡ Err TermFault.High → ¬ IsSmall (item_of self.old.items node) }
+        ensures same { self.new.state ≡ self.old.state }
+    {
+        self.bank.add(node)
+    }
+
+    // Adds a list to the bank.
+    fn keep_list(&mut self, node: Node) -> Result<TermId, NoMemory>
+        requires parts { HasParts self.old.items node }
+        requires form { IsMany (item_of self.old.items node) }
+        ensures list { IfOk result (λ t. IsListAt self.new.items t) }
+        ensures is { IfOk result (λ t. list_at self.new.items t ≡ list (item_of self.old.items node)) }
+        ensures kept { Extends self.old.items self.new.items }
+        ensures same { self.new.state ≡ self.old.state }
+    {
+        self.keep(node).map_err(|_| NoMemory)
+    }
+
+    /// Adds a term by its parts.
+    pub fn add_term(&mut self, node: Node) -> Result<(), TermFault>
+        requires parts { HasParts self.old.items node }
+        requires form { IsOne (item_of self.old.items node) }
+        ensures { AddsTerm self.old.state self.new.state (tree (item_of self.old.items node)) result }
+    {
+        match self.keep(node) {
+            Ok(term) => self.terms.push(term).map_err(|_| TermFault::Memory),
+            Err(fault) => Err(fault),
+        }
+    }
+
+    /// Adds an instance of an entry, whose arguments are terms of these numbers.
+    pub fn add_instance(&mut self, k: u32, arguments: &[usize]) -> Result<(), TermFault>
+        requires { AllByRecursion (IsTerm self.old.state) arguments.now }
+        ensures { AddsTerm self.old.state self.new.state (Const k (trees (map (term_at self.old.state) arguments.now))) result }
+    {
+        match self.list_of(arguments) {
+            Ok(list) => self.add_term(Node::Const(k, list)),
+            Err(_) => Err(TermFault::Memory),
+        }
+    }
+
+    // The list of the terms of some numbers, in their order.
+    fn list_of(&mut self, numbers: &[usize]) -> Result<TermId, NoMemory>
+        requires { AllByRecursion (IsTerm self.old.state) numbers.now }
+        ensures list { IfOk result (λ t. IsListAt self.new.items t) }
+        ensures is { IfOk result (λ t. list_at self.new.items t ≡ trees (map (term_at self.old.state) numbers.now)) }
+        ensures same { self.new.state ≡ self.old.state }
+    {
+        let mut list = self.keep_list(Node::Nil)?;
+        for number in numbers {
+            let term = self.term(*number);
+            list = self.keep_list(Node::Cons(term, list))?;
+        }
+        Ok(list)
+    }
+
+    /// Adds a context that is another one extended by a term.
+    pub fn add_context(&mut self, ctx: TermId, term: TermId) -> Result<(), NoMemory>
+        requires ctx { IsListAt self.old.items ctx }
+        requires term { IsTermAt self.old.items term }
+        ensures ok { OnOk result (self.new.state
+            ≡ record self.old.state { known = with_context self.old.state.known (list_at self.old.items ctx ▸ tree_at self.old.items term) }) }
+        ensures err { OnErr result (self.new.state ≡ self.old.state) }
+    {
+        let extended = self.keep_list(Node::Cons(term, ctx))?;
+        self.contexts.push(extended).map_err(|_| NoMemory)?;
+        Ok(())
+    }
+
+    /// Adds an equality.
+    pub fn add_equality(&mut self, equated: Equated) -> Result<(), NoMemory>
+        requires { IsEquatedAt self.old.items equated }
+        ensures ok { OnOk result (self.new.state
+            ≡ record self.old.state { known = with_equality self.old.state.known (equality_of self.old.items equated) }) }
+        ensures err { OnErr result (self.new.state ≡ self.old.state) }
+    {
+        self.equalities.push(equated).map_err(|_| NoMemory)?;
+        Ok(())
+    }
+
+    /// Adds a node.
+    pub fn add_node(&mut self, judged: Judged) -> Result<(), NoMemory>
+        requires { IsJudgedAt self.old.items judged }
+        ensures ok { OnOk result (self.new.state
+            ≡ record self.old.state { known = with_node self.old.state.known (judgement_of self.old.items judged) }) }
+        ensures err { OnErr result (self.new.state ≡ self.old.state) }
+    {
+        self.nodes.push(judged).map_err(|_| NoMemory)?;
+        Ok(())
+    }
+
+    /// Adds the flag of a node.
+    pub fn add_flag(&mut self, number: usize) -> Result<(), NoMemory>
+        requires { number < length self.old.state.known.nodes }
+        ensures ok { OnOk result (self.new.state
+            ≡ record self.old.state { known = with_flag self.old.state.known (judgement_at self.old.state.known number) }) }
+        ensures err { OnErr result (self.new.state ≡ self.old.state) }
+    {
+        self.notes.push(Noted::Flag(number)).map_err(|_| NoMemory)?;
+        Ok(())
+    }
+
+    /// Adds the entry of a node, of a primitive or of a line, under a name. A name that an entry has is not added.
+    pub fn add_entry(
+        &mut self,
+        alloc: Global,
+        name: &[u8],
+        judged: Judged,
+        prim: bool,
+    ) -> Result<(), NoMemory>
+        requires judged { IsJudgedAt self.old.items judged }
+        requires room { length self.old.state.known.env + 1 < 2 ^ 32 }
+        ensures ok { OnOk result (self.new.state
+            ≡ record self.old.state { known = with_entry self.old.state.known (entry_by prim name.now (judgement_of self.old.items judged)) }) }
+    {
+        let entry = entry_of(alloc, &self.bank, judged, prim)?;
+        let name = Text::from_bytes(alloc, name)?;
+        let number = self.env.push(name, entry).map_err(|_| NoMemory)?;
+        if self.notes.push(Noted::Entry(number)).is_err() {
+            self.env.pop();
+            return Err(NoMemory);
+        }
+        Ok(())
+    }
+
+    /// The terms and the entries, when all records are judged.
+    pub fn into_parts(self) -> (Bank, Env)
+        ensures trees { env_of result.0 result.1 ≡ self.state.known.env }
+        ensures live { AreLive result.0 result.1 }
+    {
+        (self.bank, self.env)
+    }
+}
+
+// The entry of a node: of a primitive, whose type is the node's term, or of a line.
+fn entry_of(alloc: Global, bank: &Bank, judged: Judged, prim: bool) -> Result<Entry, NoMemory>
+    requires { IsJudgedAt bank.now judged }
+    ensures live { IfOk result (λ entry. IsLiveEntry bank.now entry) }
+    ensures is { IfOk result (λ entry. (name : List ℕ) → entry_of bank.now (named name entry) ≡ entry_by prim name (judgement_of bank.now judged)) }
+{
+    let params = Terms::from_vec(terms_of(alloc, bank, judged.ctx)?);
+    if prim {
+        Ok(Entry {
+            params,
+            body: None,
+            of: judged.term,
+        })
+    } else {
+        Ok(Entry {
+            params,
+            body: Some(judged.term),
+            of: judged.of,
+        })
+    }
+}
+
+// The terms of a list of the bank, in order.
+fn terms_of(alloc: Global, bank: &Bank, list: TermId) -> Result<Vec<TermId>, NoMemory>
+    requires { IsListAt bank.now list }
+    ensures live { IfOk result (λ terms. All (IsTermAt bank.now) terms.items) }
+    ensures is { IfOk result (λ terms. listed bank.now Nil terms.items ≡ list_at bank.now list) }
+{
+    let mut terms = Vec::new(alloc);
+    let mut rest = list;
+    while let Node::Cons(term, others) = bank.node(rest) {
+        terms.push(term).map_err(|_| NoMemory)?;
+        rest = others;
+    }
+    terms.reverse();
+    Ok(terms)
 }
