@@ -1,14 +1,14 @@
 -- The forms of terms, by their nodes in a bank.
 use Rattle.std.proofs.Common.{◌≡◌, ◌⊎◌, ◌↔◌, Bool, IsTrue, ◌∙◌, ◌+◌, ℕ, List, [], ◌∷◌, length, refl, sym, subst, ap, arith}
 use mathlib.Core.Logic.{inl, inr}
-use Rattle.ld_terms.specs.Put.{put}
+use Rattle.ld_terms.specs.Put.{lift, put}
 use Rattle.dr_check.specs.declared.shape.Filling.{Filling}
 use Rattle.dr_check.specs.Filling.{filling_of}
 use Rattle.dr_check.proofs.Deciding.{through}
-use Rattle.ld_terms.specs.Tree.{Trees, Nil, ◌▸◌, count}
+use Rattle.ld_terms.specs.Tree.{Star, Trees, Nil, ◌▸◌, count}
 use Rattle.ld_terms.specs.Derivable.{IsSort, star, box}
 use Rattle.ld_terms.specs.Item.{Item, tree, list, IsOne, IsMany}
-use Rattle.ld_terms.specs.Bank.{item_of, item_at, tree_at, list_at, listed, IsListAt}
+use Rattle.ld_terms.specs.Bank.{item_of, item_at, tree_at, list_at, listed, IsTermAt, IsListAt}
 use Rattle.ld_terms.specs.declared.bank.TermId.{TermId}
 use Rattle.ld_terms.specs.declared.bank.Node.{Node}
 use Rattle.ld_terms.specs.declared.bank.Node.TheVariants as node
@@ -79,3 +79,26 @@ count_by items bank us ps ts e f h =
     let c : count (list_at bank us) ≡ count (list_at items us) = ap (λ (b : List Item). count (list_at b us)) e in
     let d : length ps ≡ count (listed items Nil ts) = ap length f ∙ sym (count-listed items ts) in
     through h (λ g. sym c ∙ g ∙ d) (λ g. c ∙ g ∙ sym d)
+
+-- what a test says of a list, or of a term lifted, over the same items
+pub list_by : {t : Bool} (items bank : List Item) (us : TermId) → bank ≡ items → (IsTrue t ↔ (list_at bank us ≡ Nil)) → (IsTrue t ↔ (list_at items us ≡ Nil))
+list_by {t} items bank us e h = subst (λ (b : List Item). IsTrue t ↔ (list_at b us ≡ Nil)) e h
+
+pub weakened_by : {t : Bool} (items bank : List Item) (l x : TermId) → bank ≡ items → (IsTrue t ↔ (tree_at bank l ≡ lift (tree_at bank x) 1 0)) → (IsTrue t ↔ (tree_at items l ≡ lift (tree_at items x) 1 0))
+weakened_by {t} items bank l x e h = subst (λ (b : List Item). IsTrue t ↔ (tree_at b l ≡ lift (tree_at b x) 1 0)) e h
+
+no_star : (items : List Item) (n : Node) → IsOne (item_of items n) → (n ≡ node.Star → ⊥) → tree (item_of items n) ≡ Star → ⊥
+no_star items node.Star one f e = f refl
+no_star items node.Box_ one f e = cc
+no_star items (node.Var i) one f e = cc
+no_star items (node.App h u) one f e = cc
+no_star items (node.Lam h u) one f e = cc
+no_star items (node.Pi h u) one f e = cc
+no_star items (node.Const k us) one f e = cc
+no_star items node.Nil one f e = absurd one
+no_star items (node.Cons u us) one f e = absurd one
+
+pub not_star : (items bank : List Item) (t : TermId) (n : Node) → bank ≡ items → item_of bank n ≡ item_at bank t → IsTermAt items t → (n ≡ node.Star → ⊥) → tree_at items t ≡ Star → ⊥
+not_star items bank t n e h at f g =
+    let one = subst (λ (b : List Item). IsOne (item_at b t)) (sym e) at.form in
+    no_star bank n (subst IsOne (sym h) one) f (ap tree h ∙ subst (λ (b : List Item). tree_at b t ≡ Star) (sym e) g)

@@ -3,3 +3,5 @@ pub mod Deciding
 pub mod Equating
 pub mod EqualBy
 pub mod Growing
+pub mod FollowBy
+pub mod Arguments

@@ -1,7 +1,7 @@
 //! Whether two terms are equal by the rule of a record.
 ghost use Rattle.std.specs.Prelude.{◌≡◌, ◌↔◌, ◌≤◌, max, length, map, IsTrue};
 ghost use Rattle.std.specs.List.{AllByRecursion};
-ghost use Rattle.ld_terms.specs.Tree.{Const};
+ghost use Rattle.ld_terms.specs.Tree.{Tree, Const};
 ghost use Rattle.ld_terms.specs.Bank.{tree_at, list_at, IsTermAt, IsListAt};
 ghost use Rattle.ld_terms.specs.Rule.{EqRule};
 ghost use Rattle.ld_terms.specs.Known.{IsEqualBy, EquateAll, IsEquality, bound_by, bound_at, behind_entry, greatest};
@@ -176,10 +176,10 @@ fn equate_all(checker: &Checker, es: &[usize], us: TermId, vs: TermId) -> bool
 }
 
 /// The entries that the equality unfolds are below this number.
-pub(crate) fn bound_by(checker: &Checker, l: TermId, r: TermId, rule: &EqualRule) -> u32
+pub(crate) fn bound_by(checker: &Checker, l: TermId, rule: &EqualRule) -> u32
     requires left { IsTermAt checker.now.items l }
     requires there { EqRuleIsThere checker.now.state (eq_rule_of rule.now) }
-    requires equal { IsEqualBy checker.now.state.known (tree_at checker.now.items l) (tree_at checker.now.items r) (eq_rule_of rule.now) }
+    requires equal { (r : Tree) × IsEqualBy checker.now.state.known (tree_at checker.now.items l) r (eq_rule_of rule.now) }
     ensures { result ≡ bound_by checker.now.state.known (tree_at checker.now.items l) (eq_rule_of rule.now) }
 {
     match rule {

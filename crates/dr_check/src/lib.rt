@@ -4,6 +4,8 @@
 mod checker;
 mod compare;
 mod equal;
+mod follow;
+mod instance;
 mod known;
 mod rules;
 mod shape;
