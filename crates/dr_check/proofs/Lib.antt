@@ -5,3 +5,4 @@ pub mod EqualBy
 pub mod Growing
 pub mod FollowBy
 pub mod Arguments
+pub mod Meeting

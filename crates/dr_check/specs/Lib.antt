@@ -3,3 +3,5 @@ pub mod Stage
 pub mod Rules
 pub mod Filling
 pub mod Entered
+pub mod Spelled
+pub mod Judging

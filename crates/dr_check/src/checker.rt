@@ -103,6 +103,34 @@ impl Checker {
         &self.env
     }
 
+    /// How many terms there are.
+    pub fn terms(&self) -> usize
+        ensures { result ≡ length self.now.state.terms }
+    {
+        self.terms.len()
+    }
+
+    /// How many contexts there are.
+    pub fn contexts(&self) -> usize
+        ensures { result ≡ length self.now.state.known.contexts }
+    {
+        self.contexts.len()
+    }
+
+    /// How many equalities there are.
+    pub fn equalities(&self) -> usize
+        ensures { result ≡ length self.now.state.known.equalities }
+    {
+        self.equalities.len()
+    }
+
+    /// How many nodes there are.
+    pub fn nodes(&self) -> usize
+        ensures { result ≡ length self.now.state.known.nodes }
+    {
+        self.nodes.len()
+    }
+
     /// The term of a number.
     pub fn term(&self, number: usize) -> TermId
         requires { number < length self.now.state.terms }
