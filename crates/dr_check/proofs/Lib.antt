@@ -6,3 +6,4 @@ pub mod Growing
 pub mod FollowBy
 pub mod Arguments
 pub mod Meeting
+pub mod Decoding

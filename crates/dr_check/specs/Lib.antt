@@ -5,3 +5,4 @@ pub mod Filling
 pub mod Entered
 pub mod Spelled
 pub mod Judging
+pub mod Decoded

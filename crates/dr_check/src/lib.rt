@@ -3,6 +3,7 @@
 
 mod checker;
 mod compare;
+mod decode;
 mod equal;
 mod follow;
 mod instance;
