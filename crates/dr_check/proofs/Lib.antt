@@ -7,3 +7,5 @@ pub mod FollowBy
 pub mod Arguments
 pub mod Meeting
 pub mod Decoding
+pub mod Refusing
+pub mod Walking

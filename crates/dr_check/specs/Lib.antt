@@ -6,3 +6,5 @@ pub mod Entered
 pub mod Spelled
 pub mod Judging
 pub mod Decoded
+pub mod Faults
+pub mod Checks

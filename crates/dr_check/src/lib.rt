@@ -1,6 +1,7 @@
 //! Derivation files judged, record by record, by nothing but the records themselves.
 #![tactic(auto)]
 
+mod check;
 mod checker;
 mod compare;
 mod decode;
@@ -15,3 +16,5 @@ mod rules;
 mod shape;
 mod spelled;
 mod there;
+
+pub use check::{Checked, check_file};
