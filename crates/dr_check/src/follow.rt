@@ -1,6 +1,5 @@
 //! Whether a judgement follows by the rule of a record.
-ghost use Rattle.std.specs.Prelude.{◌≡◌, ◌↔◌, length, IsTrue};
-ghost use Rattle.std.specs.List.{AllByRecursion};
+ghost use Rattle.std.specs.Prelude.{◌↔◌, IsTrue};
 ghost use Rattle.ld_terms.specs.Bank.{tree_at, list_at, IsTermAt, IsListAt};
 ghost use Rattle.ld_terms.specs.Rule.{Rule};
 ghost use Rattle.ld_terms.specs.Known.{FollowsBy, IsNode, IsEquality};

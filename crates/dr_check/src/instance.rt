@@ -1,8 +1,7 @@
 //! Whether an instance of an entry has a type by the rule of a record.
-ghost use Rattle.std.specs.Prelude.{◌≡◌, ◌↔◌, length, IsTrue, All};
+ghost use Rattle.std.specs.Prelude.{◌↔◌, IsTrue, All};
 ghost use Rattle.std.specs.List.{AllByRecursion};
-ghost use Rattle.ld_terms.specs.Tree.{Nil, ◌▸◌};
-ghost use Rattle.ld_terms.specs.Put.{put};
+ghost use Rattle.ld_terms.specs.Tree.{Nil};
 ghost use Rattle.ld_terms.specs.Bank.{tree_at, list_at, listed, IsTermAt, IsListAt};
 ghost use Rattle.ld_terms.specs.Rule.{Rule};
 ghost use Rattle.ld_terms.specs.Known.{FollowsBy, JudgeArguments, IsNode};
@@ -12,9 +11,9 @@ use crate::checker::Checker;
 use crate::compare::{is_empty, is_instance, same_lists, same_terms};
 use crate::known::{entry_at, judges_star};
 use crate::shape::Filling;
-use ld_env::Entry;
 use ld_terms::{Node, TermId};
 
+/// Whether an instance of an entry with a body follows from its nodes: one over the context, and one for each argument.
 pub(crate) fn by_inst(
     checker: &Checker,
     m: u32,
@@ -48,6 +47,7 @@ pub(crate) fn by_inst(
     }
 }
 
+/// The same for an entry without a body.
 pub(crate) fn by_inst_prim(
     checker: &Checker,
     m: u32,

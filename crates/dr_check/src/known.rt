@@ -1,5 +1,5 @@
 //! What the records so far say of a number: its equality, its node or its entry.
-ghost use Rattle.std.specs.Prelude.{◌≡◌, ◌↔◌, ◌<◌, ◌≤◌, length, IsTrue, MatchOption};
+ghost use Rattle.std.specs.Prelude.{◌↔◌, ◌<◌, ◌≤◌, length, IsTrue, MatchOption};
 ghost use Rattle.ld_terms.specs.Tree.{Star, Box, ◌▸◌};
 ghost use Rattle.ld_terms.specs.Bank.{tree_at, list_at, IsTermAt, IsListAt};
 ghost use Rattle.ld_terms.specs.Known.{Equates, Judges};

@@ -14,6 +14,8 @@ mod make;
 mod meets;
 mod rules;
 mod shape;
+#[cfg(test)]
+mod shape_tests;
 mod spelled;
 mod there;
 

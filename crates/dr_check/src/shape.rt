@@ -15,6 +15,8 @@ pub(crate) enum Filling {
     One(TermId),
 }
 
+// The other trees of a list come last in each comparison, so that a built program goes down a long list without using stack.
+
 /// Whether a term is the other with `by` added to each free index that is at least `from`.
 pub(crate) fn is_lifted(bank: &Bank, lifted: TermId, t: TermId, by: u32, from: u32) -> bool
     requires lifted { IsLive bank.now lifted }
