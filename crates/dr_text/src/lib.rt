@@ -1,7 +1,9 @@
-//! The derivation file: its header, and the writer of its records.
+//! The derivation file: its header, the writer of its records, and their reader.
 #![tactic(auto)]
 
 mod body;
+#[cfg(test)]
+mod conversion_tests;
 mod decode;
 pub mod laws;
 mod number;
@@ -14,6 +16,8 @@ mod shape;
 mod terms;
 #[cfg(test)]
 mod tests;
+#[cfg(test)]
+mod variable_tests;
 mod writer;
 
 pub use record::header;

@@ -15,7 +15,7 @@ use std::alloc::Global;
 use std::test::Fail;
 
 // `* : box` over no entries.
-fn start(
+pub(crate) fn start(
     deriv: &mut Deriv,
     bank: &Bank,
     star: TermId,
@@ -78,7 +78,12 @@ fn flagged(deriv: &mut Deriv, bank: &Bank, j: JudgeId) -> Result<(), NoMemory>
 }
 
 // All that a writer writes of a derivation, with its end.
-fn written(alloc: Global, bank: &Bank, deriv: &Deriv, last: JudgeId) -> Result<Vec<u8>, Fail>
+pub(crate) fn written(
+    alloc: Global,
+    bank: &Bank,
+    deriv: &Deriv,
+    last: JudgeId,
+) -> Result<Vec<u8>, Fail>
     requires sound { IsSound bank.now deriv.now }
     requires last { Knows (known_of bank.now deriv.now) last (last_judgement (known_of bank.now deriv.now)) }
 {

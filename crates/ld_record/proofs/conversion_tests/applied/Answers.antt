@@ -1,15 +1,14 @@
-use Rattle.std.proofs.Common.{IfOk, List, refl, subst, arith}
-use Rattle.ld_terms.specs.Tree.{Tree, Trees, Star, Box, Var, App, Lam, Pi, Const, Nil, ◌▸◌}
+use Rattle.std.proofs.Common.{IfOk, subst, arith}
+use Rattle.ld_terms.specs.Tree.{Star, Box, Var, App, Pi, Nil}
 use Rattle.ld_terms.specs.Derivable.{IsSort}
-use Rattle.ld_terms.specs.Known.{Known, Judgement}
-use Rattle.ld_record.specs.declared.record.EqStep.TheVariants as eq_step
+use Rattle.ld_terms.specs.Known.{Judgement}
 use Rattle.ld_record.specs.declared.record.Step.TheVariants as step
 use Rattle.ld_record.specs.Kept.{known_of}
 use Rattle.ld_record.specs.Growth.{Knows}
-use Rattle.ld_record.specs.Tests.{judged, one_type, type_and_member, same_type, type_and_redex}
-use Rattle.ld_record.proofs.Growing.{knows_later, knows_context_later, knows_equality_later}
-use Rattle.ld_record.proofs.CallerLemmas.{said, node_fits, equal_fits, empty_known}
-use Rattle.ld_record.proofs.Following.{by_var, by_weak, by_form, by_appl, by_abst, by_conv, says_at, knows_said, equality_known, context_fits, extended_known}
+use Rattle.ld_record.specs.Tests.{judged, one_type, same_type}
+use Rattle.ld_record.proofs.Growing.{knows_later, knows_context_later}
+use Rattle.ld_record.proofs.CallerLemmas.{said, node_fits}
+use Rattle.ld_record.proofs.Following.{by_weak, by_appl, says_at, knows_said}
 use Rattle.ld_record.proofs.conversion_tests.applied.Goals as goal
 
 pub emit-requires-clause-fits : goal.emit-requires-clause-fits

@@ -1,5 +1,5 @@
 use Rattle.ld_record.specs.Kept.{known_of}
-use Rattle.ld_record.proofs.Growing.{adds_trans, knows_later}
+use Rattle.ld_record.proofs.Growing.{knows_later}
 use Rattle.ld_record.proofs.tests.keeps_an_application_and_a_flag.Goals as goal
 
 pub flagged-requires-clause-formed : goal.flagged-requires-clause-formed
