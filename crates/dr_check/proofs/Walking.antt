@@ -213,7 +213,7 @@ module _ (bytes : List ℕ) (old new : Reading) (s t : State) (number : ℕ) (h 
   unended : drop old.at bytes ≡ [] → old.ended ≡ false → IsFirstFault bytes Unfinished
   unended none e =
       still_running (IsFirstFault bytes Unfinished) e (λ rs k stand made numbered.
-        unfinished rs (k.is ∙ ap (λ xs. spelling rs ++ xs) (sym (left bytes old.at rs k) ∙ none) ∙ append-nil (spelling rs)) stand)
+      unfinished rs (k.is ∙ ap (λ xs. spelling rs ++ xs) (sym (left bytes old.at rs k) ∙ none) ∙ append-nil (spelling rs)) stand)
 
   -- the bytes of records and one more
   one_more : (rs : List Record) (k : IsSpelled bytes old.at rs) (r : Record) (there : IsRecordAt bytes old.at r) → bytes ≡ spelling (rs ++ r ∷ []) ++ there.rest
@@ -224,15 +224,15 @@ module _ (bytes : List ℕ) (old new : Reading) (s t : State) (number : ℕ) (h 
   bad_reference j k =
       let there : IsRecordAt bytes old.at k.it = subst (λ (xs : List ℕ). IsRecordAt xs old.at k.it) h.same k.there in
       still_running (IsFirstFault bytes (BadRef j)) k.more (λ rs spelled stand made numbered.
-        subst (λ n. IsFirstFault bytes (BadRef n)) (sym (k.number_is ∙ numbered))
-        (reference rs k.it there.rest (one_more rs spelled k.it there) stand there.spelling (subst (λ x. IsThere x k.it → ⊥) made k.refused)))
+      subst (λ n. IsFirstFault bytes (BadRef n)) (sym (k.number_is ∙ numbered))
+      (reference rs k.it there.rest (one_more rs spelled k.it there) stand there.spelling (subst (λ x. IsThere x k.it → ⊥) made k.refused)))
 
   bad_step : (j : ℕ) → RefusesNext old number j (λ r. IsThere s r × (Meets s r → ⊥)) → IsFirstFault bytes (BadStep j)
   bad_step j k =
       let there : IsRecordAt bytes old.at k.it = subst (λ (xs : List ℕ). IsRecordAt xs old.at k.it) h.same k.there in
       still_running (IsFirstFault bytes (BadStep j)) k.more (λ rs spelled stand made numbered.
-        subst (λ n. IsFirstFault bytes (BadStep n)) (sym (k.number_is ∙ numbered))
-        (step rs k.it there.rest (one_more rs spelled k.it there) stand there.spelling (subst (λ x. IsThere x k.it) made k.refused.0) (subst (λ x. Meets x k.it → ⊥) made k.refused.1)))
+      subst (λ n. IsFirstFault bytes (BadStep n)) (sym (k.number_is ∙ numbered))
+      (step rs k.it there.rest (one_more rs spelled k.it there) stand there.spelling (subst (λ x. IsThere x k.it) made k.refused.0) (subst (λ x. Meets x k.it → ⊥) made k.refused.1)))
 
   pub faulted : (fault : RecordFault) → AnswersNext old new s t number (Err fault) → ChecksFile bytes (Err fault)
   faulted (Malformed at) k =

@@ -17,6 +17,8 @@ mod shape;
 #[cfg(test)]
 mod shape_tests;
 mod spelled;
+#[cfg(test)]
+mod tests;
 mod there;
 
 pub use check::{Checked, check_file};

@@ -146,7 +146,14 @@ fn make_node(checker: &mut Checker, claim: &Claim, rule: &NodeRule) -> Result<()
         term: checker.term(claim.term),
         of: checker.term(claim.of),
     };
-    if !follows(checker, judged.entries, judged.ctx, judged.term, judged.of, rule) {
+    if !follows(
+        checker,
+        judged.entries,
+        judged.ctx,
+        judged.term,
+        judged.of,
+        rule,
+    ) {
         return Err(Unmet::Condition);
     }
     match checker.add_node(judged) {

@@ -38,8 +38,7 @@ pub(crate) fn may_end(checker: &Checker, n: usize) -> bool
     ensures { IsTrue result ↔ MayEnd checker.now.state.known n }
 {
     let node = checker.node(n);
-    is_empty(checker.bank(), node.ctx)
-        && judges_star(checker, n, checker.env().len(), node.ctx)
+    is_empty(checker.bank(), node.ctx) && judges_star(checker, n, checker.env().len(), node.ctx)
 }
 
 // Whether the name has 1 to 255 bytes, and no entry has it.

@@ -120,10 +120,8 @@ fn has_node_rule(checker: &Checker, rule: &NodeRule) -> bool
     match rule {
         NodeRule::Sort => true,
         NodeRule::Var(n) | NodeRule::Def(n) | NodeRule::DefPrim(n) => has_node(checker, *n),
-        NodeRule::Weak(n, o)
-        | NodeRule::Form(n, o)
-        | NodeRule::Appl(n, o)
-        | NodeRule::Abst(n, o) => has_node(checker, *n) && has_node(checker, *o),
+        NodeRule::Weak(n, o) | NodeRule::Form(n, o) | NodeRule::Appl(n, o) | NodeRule::Abst(n, o) =>
+            has_node(checker, *n) && has_node(checker, *o),
         NodeRule::Conv(n, o, e) => {
             has_node(checker, *n) && has_node(checker, *o) && has_equality(checker, *e)
         }
