@@ -2,14 +2,14 @@
 use Rattle.std.proofs.Common.{◌≡◌, ◌<◌, ◌≤◌, ◌+◌, ℕ, List, [], ◌∷◌, ◌++◌, length, map, get_or, All, Some, refl, ap, sym, ◌∙◌, subst, arith}
 use Rattle.std.proofs.lemmas.List.{map-append, length_push, get_or_append_left, get_or_at, length-map}
 use Rattle.std.proofs.lemmas.List.Elements.{All-push, All-head, All-tail}
-use Rattle.ld_terms.specs.Tree.{Tree, Trees, ◌▸◌}
+use Rattle.ld_terms.specs.Tree.{Tree, Trees}
 use Rattle.ld_terms.specs.Item.{Item, tree, list}
 use Rattle.ld_terms.specs.Bank.{tree_at, list_at, Extends, IsTermAt, IsListAt}
 use Rattle.ld_terms.specs.declared.bank.TermId.{TermId}
 use Rattle.ld_terms.proofs.Banks.{term_at_later, list_at_later}
 use Rattle.ld_terms.specs.Entry.{Entry, Env}
 use Rattle.ld_terms.specs.Record.{State, with_term}
-use Rattle.ld_terms.specs.Known.{extended, EntryNote, Equality, Judgement, no_judgement, primitive_entry, judgement_at, with_context, with_equality, with_node, with_flag, with_entry}
+use Rattle.ld_terms.specs.Known.{EntryNote, Equality, Judgement, no_judgement, primitive_entry, judgement_at, with_context, with_equality, with_node, with_flag, with_entry}
 use Rattle.ld_env.specs.Named.{Named}
 use Rattle.ld_env.specs.Entries.{entry_of, env_of, IsLiveEntry, AreLive}
 use Rattle.ld_env.proofs.CallerLemmas.{env_of-append, env_of-later, live-later, live-push, length-env_of}
@@ -18,11 +18,6 @@ use Rattle.dr_check.specs.declared.checker.Equated.{Equated}
 use Rattle.dr_check.specs.declared.checker.Noted.{Noted}
 use Rattle.dr_check.specs.declared.checker.Noted.TheVariants as noted
 use Rattle.dr_check.specs.Stage.{judgement_of, equality_of, flag_note, note_of, state_of, IsJudgedAt, IsEquatedAt, IsNoted, AreTables}
-
--- a list with one tree more at its end
-pub extended-push : (us : Trees) (ts : List Tree) (t : Tree) → extended us (ts ++ t ∷ []) ≡ extended us ts ▸ t
-extended-push us [] t = refl
-extended-push us (s ∷ ts) t = extended-push (us ▸ s) ts t
 
 -- two functions that agree on the elements of a list
 pub map_agree : {A B : Type 0} (f g : A → B) (P : A → Type 0) (xs : List A) → ((x : A) → P x → f x ≡ g x) → All P xs → map f xs ≡ map g xs

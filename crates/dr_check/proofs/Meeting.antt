@@ -1,5 +1,5 @@
 -- Whether a name is free, and how many parameters an entry has.
-use Rattle.std.proofs.Common.{◌≡◌, ◌==◌, ◌<◌, ℕ, List, length, [], get_or, ◌↔◌, Option, Some, None, is_none, is_some, not, Bool, true, false, refl, IsTrue, arith, MatchOption, Contains, slice_get, ap, sym, ◌∙◌, subst}
+use Rattle.std.proofs.Common.{◌≡◌, ◌==◌, ℕ, List, length, [], ◌↔◌, Option, Some, None, is_none, is_some, not, Bool, true, false, refl, IsTrue, arith, MatchOption, Contains, slice_get, ap, sym, ◌∙◌, subst}
 use Rattle.std.proofs.lemmas.Bool.Decides.{nat_tests}
 use Rattle.std.proofs.lemmas.Option.{slice_get_within, get_or_from_slice_get}
 use Rattle.ld_terms.specs.Item.{Item}

@@ -3,7 +3,7 @@ use Rattle.std.proofs.Common.{◌≡◌, ◌≢◌, ℕ, List, [], ◌∷◌, �
 use Rattle.std.proofs.lemmas.List.{append-nil, append_cancel_left}
 use Rattle.ld_terms.specs.Entry.{Env}
 use Rattle.ld_terms.specs.Known.{Note}
-use Rattle.ld_terms.specs.Record.{Record, State, HasSpelling, IsThere, Meets, IsNoEnd, Stand, Stands, start, after, final}
+use Rattle.ld_terms.specs.Record.{Record, State, HasSpelling, IsNoEnd, Stand, Stands, start, after, final}
 use Rattle.dr_text.specs.Spelling.{header, record_bytes, records_bytes, spelling}
 use Rattle.dr_text.specs.Derives.{Derives}
 use Rattle.dr_text.proofs.Once.{one_spelling}

@@ -1,16 +1,14 @@
 -- A file that is read record by record, each judged over those before it.
-use Rattle.std.proofs.Common.{◌≡◌, ◌<◌, ◌≤◌, ◌+◌, ◌^◌, ◌⊎◌, inl, inr, true≢false, ℕ, Bool, true, false, List, [], ◌∷◌, ◌++◌, length, drop, Result, Ok, Err, refl, ap, sym, ◌∙◌, subst, subst₂, arith, append_assoc}
+use Rattle.std.proofs.Common.{◌≡◌, ◌<◌, ◌≤◌, ◌+◌, ◌⊎◌, inl, inr, true≢false, ℕ, Bool, true, false, List, [], ◌∷◌, ◌++◌, length, drop, Ok, Err, refl, ap, sym, ◌∙◌, subst, subst₂, arith, append_assoc}
 use Rattle.std.proofs.lemmas.List.{append-nil, length-append, length_push}
 use Rattle.std.proofs.Math.Seq.{drop-append_seam}
-use Rattle.ld_terms.specs.Rule.{EqRule}
-use Rattle.ld_terms.specs.Known.{Note, judgement_at, line_entry, primitive_entry}
-use Rattle.ld_terms.specs.Record.{Record, State, HasSpelling, IsThere, Meets, IsNoEnd, Stand, Stands, start, after, final}
+use Rattle.ld_terms.specs.Known.{judgement_at, line_entry, primitive_entry}
+use Rattle.ld_terms.specs.Record.{Record, State, IsThere, Meets, IsNoEnd, Stand, Stands, start, after, final}
 use Rattle.ld_terms.specs.Derivable.{IsLegal}
 use Rattle.ld_record.proofs.Derived.{environment_is_legal}
 use Rattle.ld_env.specs.Entries.{env_of, AreLive}
 use Rattle.dr_text.specs.Spelling.{header, record_bytes, records_bytes, spelling}
-use Rattle.dr_text.specs.Read.{Reading, is_end, HasHeader, IsRecordAt, IsNoRecordAt, IsAtEnd, Reads, Parts}
-use Rattle.dr_text.specs.Derives.{Derives}
+use Rattle.dr_text.specs.Read.{Reading, is_end, HasHeader, IsRecordAt, IsNoRecordAt, Reads, Parts}
 use Rattle.dr_text.proofs.Records.{final-append, stand-append, records_bytes-append}
 use Rattle.dr_text.specs.declared.reader.RecordFault.{RecordFault}
 use Rattle.dr_text.specs.declared.reader.RecordFault.TheVariants.{Malformed, Unfinished, BadRef, BadStep, Memory}

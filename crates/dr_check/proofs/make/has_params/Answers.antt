@@ -1,4 +1,4 @@
-use Rattle.std.proofs.Common.{◌≡◌, ℕ, length, ap, sym, ◌∙◌}
+use Rattle.std.proofs.Common.{◌≡◌, length, ap, sym, ◌∙◌}
 use Rattle.ld_terms.specs.Record.{params_at}
 use Rattle.dr_check.proofs.Meeting.{params_of, as_many}
 use Rattle.dr_check.proofs.make.has_params.Goals as goal

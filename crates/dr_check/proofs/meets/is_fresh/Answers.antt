@@ -1,4 +1,4 @@
-use Rattle.std.proofs.Common.{◌≡◌, ◌↔◌, Bool, not, IsTrue, is_none, ap, sym, subst}
+use Rattle.std.proofs.Common.{◌≡◌, ◌↔◌, Bool, IsTrue, is_none, subst}
 use Rattle.ld_terms.specs.Entry.{IsFresh}
 use Rattle.dr_check.proofs.Meeting.{found, flipped}
 use Rattle.dr_check.proofs.meets.is_fresh.Goals as goal
