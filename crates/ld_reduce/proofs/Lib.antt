@@ -1,0 +1,9 @@
+pub mod Tasks
+pub mod Going
+mod Following
+mod Unfolding
+mod Stepping
+mod Walks
+mod Turns
+pub mod Once
+pub mod CallerLemmas

@@ -1,0 +1,6 @@
+pub mod Task
+pub mod Heads
+pub mod Work
+pub mod Cost
+pub mod Steps
+pub mod Laws

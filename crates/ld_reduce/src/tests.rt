@@ -1,0 +1,1 @@
+//! Head forms of small terms, with answers worked out by hand.
