@@ -1,1 +1,111 @@
 //! Head forms of small terms, with answers worked out by hand.
+ghost use Rattle.std.specs.Prelude.{◌≡◌, [], IfOk};
+ghost use Rattle.ld_terms.specs.Tree as tree;
+ghost use Rattle.ld_terms.specs.Bank.{tree_at, IsTermAt, StandsFor};
+ghost use Rattle.ld_terms.specs.Named.{IsNamed};
+
+use crate::{Budget, Stop, beta_head};
+use ld_record::Deriv;
+use ld_terms::{Bank, Node, TermFault, TermId};
+use std::test::Fail;
+
+// `(fun x : *. fun y : *. x) 3 4 5`
+fn chosen(bank: &mut Bank) -> Result<TermId, TermFault>
+    ensures { IfOk result (λ t. StandsFor bank.new t
+        (tree.App (tree.App (tree.App (tree.Lam tree.Star (tree.Lam tree.Star (tree.Var 1))) (tree.Var 3)) (tree.Var 4)) (tree.Var 5))) }
+{
+    let star = bank.add(Node::Star)?;
+    let outer = bank.add(Node::Var(1))?;
+    let inner = bank.add(Node::Lam(star, outer))?;
+    let function = bank.add(Node::Lam(star, inner))?;
+    let first = bank.add(Node::Var(3))?;
+    let one = bank.add(Node::App(function, first))?;
+    let second = bank.add(Node::Var(4))?;
+    let two = bank.add(Node::App(one, second))?;
+    let third = bank.add(Node::Var(5))?;
+    bank.add(Node::App(two, third))
+}
+
+// `*` on arguments `*`, so that it has the height.
+fn tall(bank: &mut Bank, height: u32) -> Result<TermId, TermFault>
+    ensures term { IfOk result (λ t. IsTermAt bank.new t) }
+    ensures named { IfOk result (λ t. IsNamed [] (tree_at bank.new t)) }
+{
+    let star = bank.add(Node::Star)?;
+    let mut term = star;
+    for _ in 1..height {
+        term = bank.add(Node::App(term, star))?;
+    }
+    Ok(term)
+}
+
+// `(fun x : *. * (* x)) u`, where the argument is of height 499.
+fn too_tall(bank: &mut Bank) -> Result<TermId, TermFault>
+    ensures term { IfOk result (λ t. IsTermAt bank.new t) }
+    ensures named { IfOk result (λ t. IsNamed [] (tree_at bank.new t)) }
+{
+    let argument = tall(bank, 499)?;
+    let star = bank.add(Node::Star)?;
+    let element = bank.add(Node::Var(0))?;
+    let inner = bank.add(Node::App(star, element))?;
+    let body = bank.add(Node::App(star, inner))?;
+    let function = bank.add(Node::Lam(star, body))?;
+    bank.add(Node::App(function, argument))
+}
+
+#[test]
+fn makes_two_beta_steps(rt: HostRuntime) -> Result<(), Fail> {
+    let mut bank = Bank::new(rt.alloc());
+    let mut deriv = Deriv::new(rt.alloc());
+    let term = chosen(&mut bank)?;
+    let mut budget = Budget::new(10);
+    let (to, equal) = beta_head(&mut bank, &mut deriv, term, &mut budget)?;
+    assert_eq!(rt; (budget.left(), budget.spent()), (8, 2));
+    // 3 5
+    let Node::App(function, argument) = bank.node(to) else {
+        return Err(Fail::from("no application"));
+    };
+    assert_eq!(rt; bank.node(function), Node::Var(3));
+    assert_eq!(rt; bank.node(argument), Node::Var(5));
+    // A beta step under two arguments and one under one, each argument equal to itself, and both steps one after the other.
+    assert_eq!(rt; (deriv.count(), equal.number()), (9, 8));
+    let last = format!(in rt.alloc(); "{:?}", deriv.kept(8))?;
+    assert!(rt; last.as_str().ends_with("Trans(EqId(4), EqId(7)))"));
+    Ok(())
+}
+
+#[test]
+fn stops_where_no_step_is_left(rt: HostRuntime) -> Result<(), Fail> {
+    let mut bank = Bank::new(rt.alloc());
+    let mut deriv = Deriv::new(rt.alloc());
+    let term = chosen(&mut bank)?;
+    let mut budget = Budget::new(1);
+    let result = beta_head(&mut bank, &mut deriv, term, &mut budget);
+    assert!(rt; matches!(result, Err(Stop::Spent)));
+    assert_eq!(rt; (budget.left(), budget.spent()), (0, 1));
+    Ok(())
+}
+
+#[test]
+fn counts_the_step_to_a_high_term(rt: HostRuntime) -> Result<(), Fail> {
+    let mut bank = Bank::new(rt.alloc());
+    let mut deriv = Deriv::new(rt.alloc());
+    let term = too_tall(&mut bank)?;
+    let mut budget = Budget::new(10);
+    let result = beta_head(&mut bank, &mut deriv, term, &mut budget);
+    assert!(rt; matches!(result, Err(Stop::High)));
+    assert_eq!(rt; (budget.left(), budget.spent()), (9, 1));
+    Ok(())
+}
+
+#[test]
+fn leaves_a_head_form(rt: HostRuntime) -> Result<(), Fail> {
+    let mut bank = Bank::new(rt.alloc());
+    let mut deriv = Deriv::new(rt.alloc());
+    let term = tall(&mut bank, 3)?;
+    let mut budget = Budget::new(0);
+    let (to, equal) = beta_head(&mut bank, &mut deriv, term, &mut budget)?;
+    assert_eq!(rt; to, term);
+    assert_eq!(rt; (deriv.count(), equal.number()), (1, 0));
+    Ok(())
+}
