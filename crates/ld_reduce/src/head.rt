@@ -35,10 +35,7 @@ pub fn defined_head(bank: &Bank, env: &Env, t: TermId) -> Option<u32>
 {
     match bank.node(t) {
         Node::App(f, _) => defined_head(bank, env, f),
-        Node::Const(k, us) => match unfolding(bank, env, k, us) {
-            Some(_) => Some(k),
-            None => None,
-        },
+        Node::Const(k, us) => unfolding(bank, env, k, us).and(Some(k)),
         _ => None,
     }
 }
