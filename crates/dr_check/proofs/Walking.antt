@@ -5,10 +5,11 @@ use Rattle.std.proofs.Math.Seq.{drop-append_seam}
 use Rattle.ld_terms.specs.Known.{judgement_at, line_entry, primitive_entry}
 use Rattle.ld_terms.specs.Record.{Record, State, IsThere, Meets, IsNoEnd, Stand, Stands, start, after, final}
 use Rattle.ld_terms.specs.Derivable.{IsLegal}
-use Rattle.ld_record.proofs.Derived.{environment_is_legal}
 use Rattle.ld_env.specs.Entries.{env_of, AreLive}
 use Rattle.dr_text.specs.Spelling.{header, record_bytes, records_bytes, spelling}
 use Rattle.dr_text.specs.Read.{Reading, is_end, HasHeader, IsRecordAt, IsNoRecordAt, Reads, Parts}
+use Rattle.dr_text.specs.Derives.{Derives}
+use Rattle.dr_text.proofs.Legal.{derived_is_legal}
 use Rattle.dr_text.proofs.Records.{final-append, stand-append, records_bytes-append}
 use Rattle.dr_text.specs.declared.reader.RecordFault.{RecordFault}
 use Rattle.dr_text.specs.declared.reader.RecordFault.TheVariants.{Malformed, Unfinished, BadRef, BadStep, Memory}
@@ -160,18 +161,19 @@ derived bytes old new s t number checked h k trees live = by_front h.front
     by_front (finished rs n e spelled stand made stands) =
         let env : (final start rs).known.env ≡ env_of checked.bank checked.env = sym (trees ∙ ap (λ (x : State). x.known.env) (k.2 ∙ made)) in
         let end : Stands (final start rs) (Record.End n) = subst (λ x. Stands x (Record.End n)) made stands in
+        let derives : Derives bytes (env_of checked.bank checked.env) (final start rs).known.notes = record {
+          listed = rs;
+          last = n;
+          spelled = spelled.is ∙ ap (λ xs. spelling (rs ++ Record.End n ∷ []) ++ xs) (sym (left bytes old.at (rs ++ Record.End n ∷ []) spelled) ∙ none) ∙ append-nil (spelling (rs ++ Record.End n ∷ []));
+          stand = stand;
+          end = end;
+          env = env;
+          notes = refl;
+        } in
         record {
           notes = (final start rs).known.notes;
-          derives = record {
-            listed = rs;
-            last = n;
-            spelled = spelled.is ∙ ap (λ xs. spelling (rs ++ Record.End n ∷ []) ++ xs) (sym (left bytes old.at (rs ++ Record.End n ∷ []) spelled) ∙ none) ∙ append-nil (spelling (rs ++ Record.End n ∷ []));
-            stand = stand;
-            end = end;
-            env = env;
-            notes = refl;
-          };
-          legal = subst IsLegal env (environment_is_legal rs stand n end.meets);
+          derives = derives;
+          legal = derived_is_legal bytes (env_of checked.bank checked.env) (final start rs).known.notes derives;
           live = live;
         }
 

@@ -10,3 +10,4 @@ pub mod Splitting
 pub mod Bodies
 pub mod Placing
 pub mod Once
+pub mod Legal

@@ -1,6 +1,7 @@
 -- The bytes of a derivation file are read one way.
 use Rattle.std.specs.Prelude.{◌≡◌, ℕ, List, ◌++◌}
 use Rattle.ld_terms.specs.Entry.{Env}
+use Rattle.ld_terms.specs.Derivable.{IsLegal}
 use Rattle.ld_terms.specs.Known.{Note}
 use Rattle.ld_terms.specs.Record.{Record}
 use Rattle.dr_text.specs.Number.{number}
@@ -32,3 +33,7 @@ OneList = (rs qs : List Record) → spelling rs ≡ spelling qs → rs ≡ qs
 abbrev pub OneEnvironment : Type 0
 OneEnvironment = (bytes : List ℕ) (entries entries' : Env) (kept kept' : List Note) → Derives bytes entries kept → Derives bytes entries' kept'
     → (entries ≡ entries') × (kept ≡ kept')
+
+-- the environment that a file derives is legal
+abbrev pub DerivedIsLegal : Type 0
+DerivedIsLegal = (bytes : List ℕ) (entries : Env) (kept : List Note) → Derives bytes entries kept → IsLegal entries

@@ -1,5 +1,5 @@
 //! The laws of derivation files: the bytes determine what is read.
-ghost use Rattle.dr_text.specs.Laws.{OneNumber, OneSpelling, OneRecord, OneOfParts, OneList, OneEnvironment};
+ghost use Rattle.dr_text.specs.Laws.{OneNumber, OneSpelling, OneRecord, OneOfParts, OneList, OneEnvironment, DerivedIsLegal};
 
 /// A number's spelling is read one way.
 pub fn one_number()
@@ -25,4 +25,9 @@ pub fn one_list()
 /// A file that derives an environment derives no second one.
 pub fn one_environment()
     ensures { OneEnvironment }
+{}
+
+/// The environment that a file derives is legal.
+pub fn derived_is_legal()
+    ensures { DerivedIsLegal }
 {}
