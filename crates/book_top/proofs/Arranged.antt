@@ -74,7 +74,7 @@ nothing_passes pending rows position trailing stand e =
 module _ (rows : List Row) (word : Text) where
   positional_new : (position : ℕ) (id : Text) → Place position id → fault_now (Some (id, word ∷ [])) rows ≡ [] → rows_now (Some (id, word ∷ [])) rows ≡ rows ++ entry id word ∷ []
   positional_new _ _ first e = appends (codes "command") word rows (no_row _ _ e)
-  positional_new _ _ second e = appends (codes "book") word rows (no_row _ _ e)
+  positional_new _ _ second e = appends (codes "file") word rows (no_row _ _ e)
   positional_new _ _ third e = appends (codes "out") word rows (no_row _ _ e)
 
   budget_new : use_fault false budget_arg (word ∷ []) rows ≡ [] → used budget_arg (word ∷ []) rows ≡ rows ++ entry (codes "budget") word ∷ []

@@ -1,5 +1,5 @@
--- Words ask for a check, or for nothing that is known.
-use Rattle.std.proofs.Common.{◌≡◌, ◌∙◌, ◌⊎◌, ◌<◌, ◌≤◌, ℕ, Bool, true, false, refl, sym, ap, subst, arith, inl, inr, List, [], ◌∷◌, length, None, codes, true≢false, Result, Ok, Err, IfErr}
+-- Words ask for a check, for a verification, or for nothing that is known.
+use Rattle.std.proofs.Common.{◌≡◌, ◌≢◌, ◌∙◌, ◌⊎◌, ◌<◌, ◌≤◌, ℕ, Bool, true, false, refl, sym, ap, arith, inl, inr, List, [], ◌∷◌, length, None, codes, true≢false, Result, Ok, Err, IfErr}
 use Rattle.std.specs.Str.{bytes_eq}
 use Rattle.std.specs.Str.Parse.{AllDigits, digits_value}
 use Rattle.std.specs.Char.{digit_value}
@@ -8,12 +8,13 @@ use Rattle.std.proofs.lemmas.Slice.Eq.{bytes_eq-Decides}
 use Rattle.clap.specs.Kinds.{Kinds}
 use Rattle.clap.specs.Walk.{Text}
 use Rattle.clap.specs.Faults.{fault_of}
-use Rattle.book_top.specs.CommandLine.{line, Asks, AsksNothing}
+use Rattle.book_top.specs.CommandLine.{line, AskCheck, AskVerify, AskNothing}
 use Rattle.book_top.specs.Words.{Arranges, IsBudget, HasBudget, default, stated, IsDecided}
+use Rattle.book_top.specs.Words as decide
 use Rattle.book_top.proofs.LineWalk.{first}
-use Rattle.book_top.proofs.Arranged.{AreUtf8, Got, here, some, all_pass}
+use Rattle.book_top.proofs.Arranged.{AreUtf8, here, some, all_pass}
 use Rattle.book_top.proofs.GivenRows.{fault_is}
-use Rattle.book_top.proofs.CommandLines.{arranged_once, exceeds}
+use Rattle.book_top.proofs.CommandLines.{exceeds, nothing_asked, check_asked, verify_asked}
 
 digits : (ds : Text) → AllDigits 10 ds ⊎ (AllDigits 10 ds → ⊥)
 digits [] = inl tt
@@ -54,37 +55,63 @@ has_budget (text ∷ []) = by (is_budget text)
     by (inr other) = inr (no_budget text other)
 has_budget (a ∷ b ∷ bs) = inr (two_budgets a b bs)
 
-asks : (ps bs : List Text) → ((book : Text) × (out : Text) × (n : ℕ) × Asks ps bs book out n) ⊎ AsksNothing ps bs
-asks [] bs = inr (λ book out n a. let e = a.positionals_are in cc)
-asks (a ∷ []) bs = inr (λ book out n a. let e = a.positionals_are in cc)
-asks (a ∷ b ∷ []) bs = inr (λ book out n a. let e = a.positionals_are in cc)
-asks (a ∷ b ∷ c ∷ d ∷ ps) bs = inr (λ book out n a. let e = a.positionals_are in cc)
-asks (command ∷ book ∷ out ∷ []) bs = by (bytes_eq command (codes "check")) refl (has_budget bs)
+-- the command is the word, or another
+is_word : (command word : Text) → (command ≡ word) ⊎ (command ≢ word)
+is_word command word = by (bytes_eq command word) refl
   where
-    by : (t : Bool) → bytes_eq command (codes "check") ≡ t → ((n : ℕ) × HasBudget bs n) ⊎ ((n : ℕ) → HasBudget bs n → ⊥)
-        → ((b : Text) × (o : Text) × (n : ℕ) × Asks (command ∷ book ∷ out ∷ []) bs b o n) ⊎ AsksNothing (command ∷ book ∷ out ∷ []) bs
-    by true e (inl h) = inl (book, out, h.0, record { positionals_are = ap (λ c. c ∷ book ∷ out ∷ []) ((bytes_eq-Decides command (codes "check")).0 e); has_budget = h.1 })
-    by true e (inr other) = inr (λ b o n a. other n a.has_budget)
-    by false e h = inr (λ b o n a. true≢false (sym ((bytes_eq-Decides command (codes "check")).1 (heads a.positionals_are)) ∙ e))
-      where
-        heads : {b o : Text} → ◌≡◌ {A = List Text} (command ∷ book ∷ out ∷ []) (codes "check" ∷ b ∷ o ∷ []) → command ≡ codes "check"
-        heads e = cc
+    by : (t : Bool) → bytes_eq command word ≡ t → (command ≡ word) ⊎ (command ≢ word)
+    by true e = inl ((bytes_eq-Decides command word).0 e)
+    by false e = inr (λ is. true≢false (sym ((bytes_eq-Decides command word).1 is) ∙ e))
+
+-- what positionals and texts of budgets ask for
+data Asked (ps bs : List Text) : Type 0 where
+  check : (book out : Text) (n : ℕ) → AskCheck ps bs book out n → Asked ps bs
+  verify : (deriv : Text) → AskVerify ps bs deriv → Asked ps bs
+  nothing : AskNothing ps bs → Asked ps bs
+
+-- no budget is given that is one
+without_budget : (ps bs : List Text) → ((n : ℕ) → HasBudget bs n → ⊥) → AskNothing ps bs
+without_budget ps bs other = record { no_check = λ b o n a. other n a.has_budget; no_verify = λ d a. other a.budget a.has_budget }
+
+abbrev Budget : List Text → Type 0
+Budget bs = ((n : ℕ) × HasBudget bs n) ⊎ ((n : ℕ) → HasBudget bs n → ⊥)
+
+first_is : {command word : Text} {rest more : List Text} → ◌≡◌ {A = List Text} (command ∷ rest) (word ∷ more) → command ≡ word
+first_is e = cc
+
+ask_two : (command file : Text) (bs : List Text) → (command ≡ codes "verify") ⊎ (command ≢ codes "verify") → Budget bs → Asked (command ∷ file ∷ []) bs
+ask_two command file bs (inl is) (inl h) = verify file (record { budget = h.0; positionals_are = ap (λ c. c ∷ file ∷ []) is; has_budget = h.1 })
+ask_two command file bs is (inr other) = nothing (without_budget _ bs other)
+ask_two command file bs (inr other) (inl h) = nothing (record { no_check = λ b o n a. let e = a.positionals_are in cc; no_verify = λ d a. other (first_is a.positionals_are) })
+
+ask_three : (command file out : Text) (bs : List Text) → (command ≡ codes "check") ⊎ (command ≢ codes "check") → Budget bs → Asked (command ∷ file ∷ out ∷ []) bs
+ask_three command file out bs (inl is) (inl h) = check file out h.0 (record { positionals_are = ap (λ c. c ∷ file ∷ out ∷ []) is; has_budget = h.1 })
+ask_three command file out bs is (inr other) = nothing (without_budget _ bs other)
+ask_three command file out bs (inr other) (inl h) = nothing (record { no_check = λ b o n a. other (first_is a.positionals_are); no_verify = λ d a. let e = a.positionals_are in cc })
+
+asks : (ps bs : List Text) → Asked ps bs
+asks [] bs = nothing (record { no_check = λ b o n a. let e = a.positionals_are in cc; no_verify = λ d a. let e = a.positionals_are in cc })
+asks (a ∷ []) bs = nothing (record { no_check = λ b o n a. let e = a.positionals_are in cc; no_verify = λ d a. let e = a.positionals_are in cc })
+asks (command ∷ file ∷ []) bs = ask_two command file bs (is_word command (codes "verify")) (has_budget bs)
+asks (command ∷ file ∷ out ∷ []) bs = ask_three command file out bs (is_word command (codes "check")) (has_budget bs)
+asks (a ∷ b ∷ c ∷ d ∷ ps) bs = nothing (record { no_check = λ b o n a. let e = a.positionals_are in cc; no_verify = λ d a. let e = a.positionals_are in cc })
 
 pub decided : (words : List Text) → AreUtf8 words → IsDecided words
 decided words utf8 = by (fault_of line words) refl
   where
-    ends : (g : Got None [] 1 false words) → ((book : Text) × (out : Text) × (n : ℕ) × Asks g.positionals g.budgets book out n) ⊎ AsksNothing g.positionals g.budgets → IsDecided words
-    ends g (inl a) =
-        inl (a.0, a.1, a.2, record { budgets = g.budgets; arranges = subst (λ ps. Arranges words ps g.budgets) a.3.positionals_are g.arranges; has_budget = a.3.has_budget })
-    ends g (inr unasked) = inr (λ book out n check.
-        let e = arranged_once g.arranges check.arranges in
-        unasked book out n (record { positionals_are = e.0; has_budget = subst (λ cs. HasBudget cs n) (sym e.1) check.has_budget }))
+    ends : {ps bs : List Text} → Arranges words ps bs → Asked ps bs → IsDecided words
+    ends h (check book out n a) = decide.check book out n (check_asked book out n h a)
+    ends h (verify deriv a) = decide.verify deriv (verify_asked deriv h a)
+    ends h (nothing unasked) = decide.nothing (nothing_asked h unasked)
 
     by : (k : Kinds) → fault_of line words ≡ k → IsDecided words
     by [] e =
         let g = all_pass words utf8 None [] 1 false (here first) (sym (fault_is words) ∙ e) in
-        ends g (asks g.positionals g.budgets)
-    by (k ∷ ks) e = inr (λ book out n check. exceeds words (λ none. some k ks (sym e ∙ none)) _ _ check.arranges (omega arith) (at_most_one check.has_budget))
+        ends g.arranges (asks g.positionals g.budgets)
+    by (k ∷ ks) e = decide.nothing (record {
+      no_check = λ book out n check. exceeds words (λ none. some k ks (sym e ∙ none)) _ _ check.arranges (omega arith) (at_most_one check.has_budget);
+      no_verify = λ deriv verify. exceeds words (λ none. some k ks (sym e ∙ none)) _ _ verify.arranges (omega arith) (at_most_one verify.has_budget);
+    })
 
 -- a fact holds where a call fails too
 pub where_it_fails : {T E P : Type 0} (r : Result T E) → P → IfErr r (λ _. P)

@@ -22,7 +22,7 @@ found id rows = find (λ r. bytes_eq r.id id) rows
 -- the rows of these positionals and budgets
 record Holds (rows : List Row) (ps bs : List Text) : Type 0 where
   command : found (codes "command") rows ≡ option_map (entry (codes "command")) (slice_get ps 0)
-  book : found (codes "book") rows ≡ option_map (entry (codes "book")) (slice_get ps 1)
+  file : found (codes "file") rows ≡ option_map (entry (codes "file")) (slice_get ps 1)
   out : found (codes "out") rows ≡ option_map (entry (codes "out")) (slice_get ps 2)
   budget : found (codes "budget") rows ≡ option_map (entry (codes "budget")) (slice_get bs 0)
 
@@ -48,23 +48,23 @@ module _ (v : Text) (rows : List Row) where
   one : (bs : List Text) → Holds rows [] bs → Holds (rows ++ entry (codes "command") v ∷ []) (v ∷ []) bs
   one bs h = record {
     command = grown _ _ v rows _ h.command;
-    book = grown _ (codes "command") v rows _ h.book;
+    file = grown _ (codes "command") v rows _ h.file;
     out = grown _ (codes "command") v rows _ h.out;
     budget = grown _ (codes "command") v rows _ h.budget ∙ or_none _;
   }
 
-  two : (a : Text) (bs : List Text) → Holds rows (a ∷ []) bs → Holds (rows ++ entry (codes "book") v ∷ []) (a ∷ v ∷ []) bs
+  two : (a : Text) (bs : List Text) → Holds rows (a ∷ []) bs → Holds (rows ++ entry (codes "file") v ∷ []) (a ∷ v ∷ []) bs
   two a bs h = record {
-    command = grown _ (codes "book") v rows _ h.command;
-    book = grown _ _ v rows _ h.book;
-    out = grown _ (codes "book") v rows _ h.out;
-    budget = grown _ (codes "book") v rows _ h.budget ∙ or_none _;
+    command = grown _ (codes "file") v rows _ h.command;
+    file = grown _ _ v rows _ h.file;
+    out = grown _ (codes "file") v rows _ h.out;
+    budget = grown _ (codes "file") v rows _ h.budget ∙ or_none _;
   }
 
   three : (a b : Text) (bs : List Text) → Holds rows (a ∷ b ∷ []) bs → Holds (rows ++ entry (codes "out") v ∷ []) (a ∷ b ∷ v ∷ []) bs
   three a b bs h = record {
     command = grown _ (codes "out") v rows _ h.command;
-    book = grown _ (codes "out") v rows _ h.book;
+    file = grown _ (codes "out") v rows _ h.file;
     out = grown _ _ v rows _ h.out;
     budget = grown _ (codes "out") v rows _ h.budget ∙ or_none _;
   }
@@ -72,7 +72,7 @@ module _ (v : Text) (rows : List Row) where
   with_budget : (ps : List Text) → Holds rows ps [] → Holds (rows ++ entry (codes "budget") v ∷ []) ps (v ∷ [])
   with_budget ps h = record {
     command = grown _ (codes "budget") v rows _ h.command ∙ or_none _;
-    book = grown _ (codes "budget") v rows _ h.book ∙ or_none _;
+    file = grown _ (codes "budget") v rows _ h.file ∙ or_none _;
     out = grown _ (codes "budget") v rows _ h.out ∙ or_none _;
     budget = grown _ _ v rows _ h.budget;
   }
@@ -121,8 +121,8 @@ module _ (t : Bool) (word : Text) (words : List Text) (w : t ≡ false → is_op
       onto pending rows 1 (codes "command") (word ∷ []) first s.settles s.holds.command (one word now bs s.holds) (no_repeat _ new) (appends _ word now new) (later (Some (codes "command", word ∷ [])) now)
   positional_reaches (a ∷ []) short later pending rows s =
       let now = rows_now pending rows in
-      let new = absent (codes "book") now s.holds.book in
-      onto pending rows 2 (codes "book") (a ∷ word ∷ []) second s.settles s.holds.book (two word now a bs s.holds) (no_repeat _ new) (appends _ word now new) (later (Some (codes "book", word ∷ [])) now)
+      let new = absent (codes "file") now s.holds.file in
+      onto pending rows 2 (codes "file") (a ∷ word ∷ []) second s.settles s.holds.file (two word now a bs s.holds) (no_repeat _ new) (appends _ word now new) (later (Some (codes "file", word ∷ [])) now)
   positional_reaches (a ∷ b ∷ []) short later pending rows s =
       let now = rows_now pending rows in
       let new = absent (codes "out") now s.holds.out in
@@ -230,7 +230,7 @@ rows_are words = same_rows (rows_at_end start words) args none_has
 pub record GivesRows (words ps bs : List Text) : Type 0 where
   pub passes : fault_of line words ≡ []
   pub command : first_of (codes "command") (matches_of line words) ≡ slice_get ps 0
-  pub book : first_of (codes "book") (matches_of line words) ≡ slice_get ps 1
+  pub file : first_of (codes "file") (matches_of line words) ≡ slice_get ps 1
   pub out : first_of (codes "out") (matches_of line words) ≡ slice_get ps 2
   pub budget : first_of (codes "budget") (matches_of line words) ≡ slice_get bs 0
 
@@ -240,13 +240,13 @@ first_is id rows (Some v) e = ap (option_and_then (λ (r : Row). slice_get r.val
 
 pub gives_rows : (words ps bs : List Text) → Arranges words ps bs → length ps ≤ 3 → length bs ≤ 1 → GivesRows words ps bs
 gives_rows words ps bs h short few =
-    let e = reaches h [] [] (omega arith) (omega arith) None [] (record { settles = refl; holds = record { command = refl; book = refl; out = refl; budget = refl } }) in
+    let e = reaches h [] [] (omega arith) (omega arith) None [] (record { settles = refl; holds = record { command = refl; file = refl; out = refl; budget = refl } }) in
     let first : (id : Text) (o : Option Text) → found id (rows_at_end start words) ≡ option_map (entry id) o → first_of id (matches_of line words) ≡ o =
     λ id o f. first_is id _ o (ap (found id) (rows_are words) ∙ f) in
     record {
       passes = fault_is words ∙ e.passes;
       command = first _ _ e.holds.command;
-      book = first _ _ e.holds.book;
+      file = first _ _ e.holds.file;
       out = first _ _ e.holds.out;
       budget = first _ _ e.holds.budget;
     }

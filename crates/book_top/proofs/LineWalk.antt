@@ -114,7 +114,7 @@ budget_arg = filled budget_rule
 -- the positional that stands at a place
 pub data Place : ℕ → Text → Type 0 where
   first : Place 1 (codes "command")
-  second : Place 2 (codes "book")
+  second : Place 2 (codes "file")
   third : Place 3 (codes "out")
 
 -- the rows and the fault once what is pending is settled
@@ -155,7 +155,7 @@ module _ (pending : Option (Text × List Text)) (rows : List Row) (word : Text) 
     where
       go : (position : ℕ) (id : Text) → Place position id → after_step args word (at pending rows position t) (held pending rows) value ≡ at (Some (id, word ∷ [])) (rows_now pending rows) (suc position) t
       go _ _ first = ap₂ (λ h b. record { held = h; waiting = idle; position = 2; is_trailing = b; stopped = None }) (held_is (positional_rule 1 (codes "command")) refl) (or_false t)
-      go _ _ second = ap₂ (λ h b. record { held = h; waiting = idle; position = 3; is_trailing = b; stopped = None }) (held_is (positional_rule 2 (codes "book")) refl) (or_false t)
+      go _ _ second = ap₂ (λ h b. record { held = h; waiting = idle; position = 3; is_trailing = b; stopped = None }) (held_is (positional_rule 2 (codes "file")) refl) (or_false t)
       go _ _ third = ap₂ (λ h b. record { held = h; waiting = idle; position = 4; is_trailing = b; stopped = None }) (held_is (positional_rule 3 (codes "out")) refl) (or_false t)
 
   pub positional_fault : (position : ℕ) (id : Text) (t : Bool) → Place position id → (t ≡ false → is_option word ≡ false)
@@ -165,7 +165,7 @@ module _ (pending : Option (Text × List Text)) (rows : List Row) (word : Text) 
     where
       go : (position : ℕ) (id : Text) → Place position id → step_fault shape position (held pending rows) value ≡ fault_now pending rows
       go _ _ first = settles (is_pending (positional_rule 1 (codes "command")) pending)
-      go _ _ second = settles (is_pending (positional_rule 2 (codes "book")) pending)
+      go _ _ second = settles (is_pending (positional_rule 2 (codes "file")) pending)
       go _ _ third = settles (is_pending (positional_rule 3 (codes "out")) pending)
 
   pub stray_fault : (t : Bool) → (t ≡ false → is_option word ≡ false) → turn_fault shape [] (at pending rows 4 t) word ≡ kind.UnknownArgument ∷ []

@@ -1,5 +1,5 @@
 -- From the parts of a run to what it answers.
-use Rattle.std.proofs.Common.{IsTrue, Option, Some, ◌≢◌, ◌≡◌, ◌⊎◌, inl, inr, refl, Ok, Err, ◌<◌, ◌≤◌, ◌+◌, ℕ, zero, suc, List, [], ◌∷◌, length, take, get_or, ap, sym, subst, ◌∙◌, arith}
+use Rattle.std.proofs.Common.{IsTrue, Bor, Option, None, Some, ◌≢◌, ◌≡◌, ◌⊎◌, inl, inr, refl, Ok, Err, ◌<◌, ◌≤◌, ◌+◌, ℕ, zero, suc, List, [], ◌∷◌, length, take, get_or, ap, sym, subst, ◌∙◌, arith}
 use Rattle.std.proofs.lemmas.List.{take_all, length-take, append-nil}
 use Rattle.ld_terms.specs.Known.{Note}
 use Rattle.fb_parse.specs.declared.tree.Item.{Item}
@@ -15,6 +15,10 @@ use Rattle.fb_parse.specs.Texts.{BeginsBook, Refuses}
 use Rattle.fb_parse.specs.declared.fault.ParseFault.{ParseFault}
 use Rattle.fb_parse.specs.declared.fault.ParseFault.TheVariants as parse
 use Rattle.ld_terms.specs.Item as bank
+use Rattle.book_top.specs.declared.report.Subject.{Subject}
+use Rattle.book_top.specs.declared.report.Subject.TheVariants as subject
+use Rattle.book_top.specs.declared.status.LimitFault.{LimitFault}
+use Rattle.book_top.specs.declared.status.LimitFault.TheVariants as limit
 use Rattle.book_top.specs.declared.status.Status.{Status}
 use Rattle.book_top.specs.declared.status.Status.TheVariants as status
 use Rattle.book_top.specs.declared.status.Summary.{Summary}
@@ -25,11 +29,18 @@ use Rattle.book_top.specs.declared.item.ItemStop.TheVariants as item
 use Rattle.book_top.specs.Verdict as verdict
 use Rattle.book_top.specs.Left.{Files, IsKept, IsLeft, kept, between, whole as whole_left}
 use Rattle.book_top.specs.Checked.{IsOutcome, IsChecked, AnswersFault, AnswersStop}
-use Rattle.book_top.specs.Top.{IsFetched, AnswersOutcome, AnswersItem, AnswersNoCommand, Leaves, untouched, left, Checks, done, too_long, no_book, item_refused, Outcome, IsSaid, IsAnswerOf}
-use Rattle.book_top.specs.Top as top
-use Rattle.book_top.specs.Words.{IsCheck, IsNoCommand, IsDecided}
-use Rattle.book_top.specs.Said.{HasNoPlace, SaysOf}
-use Rattle.book_top.proofs.CommandLines.{arranged_once}
+use Rattle.book_top.specs.Top.{IsFetched, IsFetchedWithin, IsLonger, AnswersOutcome, AnswersItem, AnswersNoCommand, Leaves, untouched, left, Checks, done, too_long, no_book, item_refused, bad_record, desk, memory, Verifies, Outcome, IsSaid, IsAnswerOf, book_limit, derivation_limit}
+use Rattle.book_top.specs.Words.{IsCheck, IsVerify, IsNoCommand, IsDecided, check, verify, nothing}
+use Rattle.book_top.specs.CommandLine.{AreAsked}
+use Rattle.book_top.specs.declared.words.Command.{Command}
+use Rattle.book_top.specs.declared.words.Command.TheVariants as command
+use Rattle.book_top.specs.declared.words.Check.{Check}
+use Rattle.book_top.specs.Said.{HasNoPlace, IsOn, SaysOf}
+use Rattle.book_top.specs.Fetched.{StopsFetch, AnswersBytes, refusal_of}
+use Rattle.dr_text.specs.declared.reader.RecordFault.{RecordFault}
+use Rattle.dr_text.specs.declared.reader.RecordFault.TheVariants as record_fault
+use Rattle.dr_check.specs.Faults.{ChecksFile}
+use Rattle.book_top.proofs.CommandLines.{arranged_once, not_both}
 use Rattle.fb_base.specs.Desk.{Seen}
 
 -- fewer bytes than were asked for are all of them
@@ -67,7 +78,7 @@ parse_checks budget before after book out bytes text fault answer same is fetche
     by_fault (parse.ManyItems at) r a = no_book (record { text = bytes; fault = parse.ManyItems at; fetched = fetched; refused = r; answers = a }) same
     by_fault parse.Memory r a =
         let Q : Status → Type 0 = λ s. Checks budget before after book out s in
-        subst Q (sym a) (top.memory (untouched (ap (λ (files : Files). files out) same)))
+        subst Q (sym a) (Checks.memory (untouched (ap (λ (files : Files). files out) same)))
 
 -- the answer for a stop, over any terms
 stop_answers : (items : List bank.Item) (number : ℕ) (at : Span) (s : ItemStop) (answer : Status) → s ≢ item.Memory → AnswersStop (stop.Item number at s) answer
@@ -126,10 +137,10 @@ module _ (budget : ℕ) (before after : Files) (book out bytes text other : List
       by_stop : (s : Stop) → IsChecked budget (before out) (after out) (items_view bytes items) (Err s) → AnswersStop s answer → Checks budget before after book out answer
       by_stop stop.Desk c a =
           let R : Status → Type 0 = λ s. Checks budget before after book out s in
-          subst R (sym a) (top.desk (leaves (IsLeft budget) c))
+          subst R (sym a) (Checks.desk (leaves (IsLeft budget) c))
       by_stop stop.Memory c a =
           let R : Status → Type 0 = λ s. Checks budget before after book out s in
-          subst R (sym a) (top.memory (leaves (IsKept budget) c))
+          subst R (sym a) (Checks.memory (leaves (IsKept budget) c))
       by_stop (stop.Item n at s) c a =
           let S : Span → Type 0 = λ place. AnswersStop (stop.Item n place s) answer in
           item_refused (record {
@@ -148,12 +159,12 @@ module _ (budget : ℕ) (before after : Files) (book out bytes text other : List
 -- what a check that was answered leaves, if the report fails
 leaves_of : (budget : ℕ) (before after : Files) (book out : List ℕ) (s : Status) → s ≢ status.Desk → Checks budget before after book out s → Leaves (IsKept budget) before after book out
 leaves_of budget before after book out s other (done d) = left d.text d.items d.fetched d.parsed (whole_left d.accepted d.derives)
-leaves_of budget before after book out s other (too_long text there long same) = untouched (ap (λ (files : Files). files out) same)
+leaves_of budget before after book out s other (too_long long same) = untouched (ap (λ (files : Files). files out) same)
 leaves_of budget before after book out s other (no_book h same) = untouched (ap (λ (files : Files). files out) same)
 leaves_of budget before after book out s other (item_refused r) =
     left r.text r.items r.fetched r.parsed (between (record { some = r.first.before; cost = r.first.cost; split = r.first.split; accepted = r.first.accepted; front = r.left }))
-leaves_of budget before after book out s other (top.desk l) = absurd (other refl)
-leaves_of budget before after book out s other (top.memory l) = l
+leaves_of budget before after book out s other (Checks.desk l) = absurd (other refl)
+leaves_of budget before after book out s other (Checks.memory l) = l
 
 left_of_kept : (budget : ℕ) (before after : Files) (book out : List ℕ) → Leaves (IsKept budget) before after book out → Leaves (IsLeft budget) before after book out
 left_of_kept budget before after book out (untouched e) = untouched e
@@ -170,8 +181,27 @@ said_checks budget before mid after book out given answer h same is =
     by_answer (inl e) = let R : Status → Type 0 = λ s. Checks budget before mid book out s in subst R (sym e) h
     by_answer (inr (other, inl e)) =
         let R : Status → Type 0 = λ s. Checks budget before mid book out s in
-        subst R (sym e) (top.desk (left_of_kept budget before mid book out (leaves_of budget before mid book out given other h)))
-    by_answer (inr (other, inr e)) = let R : Status → Type 0 = λ s. Checks budget before mid book out s in subst R (sym e) (top.memory (leaves_of budget before mid book out given other h))
+        subst R (sym e) (Checks.desk (left_of_kept budget before mid book out (leaves_of budget before mid book out given other h)))
+    by_answer (inr (other, inr e)) = let R : Status → Type 0 = λ s. Checks budget before mid book out s in subst R (sym e) (Checks.memory (leaves_of budget before mid book out given other h))
+
+-- the same of a verification
+verify_same : {before after : Files} {deriv : List ℕ} {s : Status} → Verifies before after deriv s → after ≡ before
+verify_same (done bytes fetched verified same) = same
+verify_same (too_long long same) = same
+verify_same (bad_record bytes fetched refused same) = same
+verify_same (desk same) = same
+verify_same (memory same) = same
+
+pub said_verifies : (before mid after : Files) (deriv : List ℕ) (given answer : Status) → Verifies before mid deriv given → after ≡ mid → IsAnswerOf given answer
+    → Verifies before after deriv answer
+said_verifies before mid after deriv given answer h same is =
+    let F : Files → Type 0 = λ files. Verifies before files deriv answer in
+    subst F (sym same) (by_answer is)
+  where
+    by_answer : IsAnswerOf given answer → Verifies before mid deriv answer
+    by_answer (inl e) = let R : Status → Type 0 = λ s. Verifies before mid deriv s in subst R (sym e) h
+    by_answer (inr (other, inl e)) = let R : Status → Type 0 = λ s. Verifies before mid deriv s in subst R (sym e) (Verifies.desk (verify_same h))
+    by_answer (inr (other, inr e)) = let R : Status → Type 0 = λ s. Verifies before mid deriv s in subst R (sym e) (Verifies.memory (verify_same h))
 
 pub no_command_answers : (answer : Status) → IsAnswerOf status.Usage answer → AnswersNoCommand answer
 no_command_answers answer (inl e) = subst AnswersNoCommand (sym e) tt
@@ -179,9 +209,9 @@ no_command_answers answer (inr (other, inl e)) = subst AnswersNoCommand (sym e) 
 no_command_answers answer (inr (other, inr e)) = subst AnswersNoCommand (sym e) tt
 
 -- nothing is said of a desk that failed
-pub said_nothing : (text before : List ℕ) (s : Status) → s ≡ status.Desk → IsSaid text s before before s
-said_nothing text before s e =
-    let P : Status → Type 0 = λ answer. IsSaid text s before before answer in
+pub said_nothing : (about : Subject) (text before : List ℕ) (s : Status) → s ≡ status.Desk → IsSaid about text s before before s
+said_nothing about text before s e =
+    let P : Status → Type 0 = λ answer. IsSaid about text s before before answer in
     subst P (sym e) (0, sym (append-nil before))
 
 abbrev second : List (List ℕ) → List ℕ
@@ -198,38 +228,138 @@ third words = []
 pub same_out : (words : List (List ℕ)) (book out b o : List ℕ) (budget m : ℕ) → IsCheck words book out budget → IsCheck words b o m → out ≡ o
 same_out words book out b o budget m h k = ap third (arranged_once h.arranges k.arranges).0
 
+-- what the answer is on
+pub on_book : {words : List (List ℕ)} {book out : List ℕ} {budget : ℕ} → IsCheck words book out budget → IsOn words subject.Book
+on_book {book = book} {out = out} {budget = budget} asked = record { check = λ b o n h. refl; verify = λ deriv h. absurd (not_both book out deriv budget asked h) }
+
+pub on_derivation : {words : List (List ℕ)} {deriv : List ℕ} → IsVerify words deriv → IsOn words subject.Derivation
+on_derivation {deriv = deriv} asked = record { check = λ b o n h. absurd (not_both b o deriv n h asked); verify = λ d h. refl }
+
+pub on_nothing : {words : List (List ℕ)} (about : Subject) → IsNoCommand words → IsOn words about
+on_nothing about unknown = record { check = λ b o n h. absurd (unknown.no_check b o n h); verify = λ d h. absurd (unknown.no_verify d h) }
+
 -- the report is said of the book that was fetched
 pub says_of : (old mid new : Seen) (words : List (List ℕ)) (book out text bytes : List ℕ) (budget : ℕ) (given answer : Status) → IsCheck words book out budget → mid.said ≡ old.said → text ≡ bytes
-    → IsSaid text given mid.said new.said answer → (IsTrue old.tells_files → old.files book ≡ Some bytes) → (IsTrue old.tells_files → Checks budget old.files new.files book out given)
+    → IsSaid subject.Book text given mid.said new.said answer → (IsTrue old.tells_files → old.files book ≡ Some bytes) → (IsTrue old.tells_files → Checks budget old.files new.files book out given)
     → IsAnswerOf given answer → SaysOf old new words answer
 says_of old mid new words book out text bytes budget given answer asked same is said there checks follows =
-    let P : List ℕ → Type 0 = λ b. IsSaid text given b new.said answer in
+    let P : List ℕ → Type 0 = λ b. IsSaid subject.Book text given b new.said answer in
     record {
+      about = subject.Book;
       text = text;
       given = given;
+      on = on_book asked;
       said = subst P same said;
       is = λ placed told b o m check. ap old.files (same_book words book out b o budget m asked check) ∙ there told ∙ ap Some (sym is);
-      due = λ told. top.check book out budget asked (checks told);
-      no_command = λ unknown. absurd (unknown book out budget asked);
+      due = λ told. Outcome.check book out budget asked (checks told);
+      no_command = λ unknown. absurd (unknown.no_check book out budget asked);
       follows = follows;
     }
 
 -- a report without a place
-pub says_placeless : (old mid new : Seen) (words : List (List ℕ)) (text : List ℕ) (given answer : Status) → mid.said ≡ old.said → HasNoPlace given
+pub says_placeless : (old mid new : Seen) (words : List (List ℕ)) (about : Subject) (text : List ℕ) (given answer : Status) → IsOn words about → mid.said ≡ old.said → HasNoPlace given
     → (IsTrue old.tells_files → Outcome old.files new.files words given) → (IsNoCommand words → given ≡ status.Usage)
-    → IsAnswerOf given answer → IsSaid text given mid.said new.said answer → SaysOf old new words answer
-says_placeless old mid new words text given answer same h due unknown follows said =
-    let P : List ℕ → Type 0 = λ b. IsSaid text given b new.said answer in
-    record { text = text; given = given; said = subst P same said; is = λ placed told b o m check. absurd (placed h); due = due; no_command = unknown; follows = follows }
+    → IsAnswerOf given answer → IsSaid about text given mid.said new.said answer → SaysOf old new words answer
+says_placeless old mid new words about text given answer on same h due unknown follows said =
+    let P : List ℕ → Type 0 = λ b. IsSaid about text given b new.said answer in
+    record { about = about; text = text; given = given; on = on; said = subst P same said; is = λ placed told b o m check. absurd (placed h); due = due; no_command = unknown; follows = follows }
+
+-- ---- what the words ask for
+
+module _ {words : List (List ℕ)} (found : Option Command) (asked : AreAsked words found) where
+  pub asks_check : (x : Command) (c : Check) → found ≡ Some x → x ≡ command.Check c → IsCheck words c.book.now c.out.now c.budget
+  asks_check x c e f = subst (AreAsked words) (e ∙ ap Some f) asked
+
+  pub asks_verify : (x : Command) (deriv : Bor (List ℕ)) → found ≡ Some x → x ≡ command.Verify deriv → IsVerify words deriv.now
+  asks_verify x deriv e f = subst (AreAsked words) (e ∙ ap Some f) asked
+
+  pub asks_nothing : found ≡ None → IsNoCommand words
+  asks_nothing e = subst (AreAsked words) e asked
+
+-- ---- a file that isn't fetched
+
+module _ (most : ℕ) (passed : LimitFault) (before : Seen) (name : List ℕ) where
+  -- by the cause, where files are told
+  fetch_stops : (P : Status → Type 0) (s : Status) → StopsFetch most passed before name s → IsTrue before.tells_files
+      → (IsLonger most before.files name → P (status.Limit passed)) → P status.Desk → P status.Memory → P s
+  fetch_stops P (status.Limit l) h told long failed spent = subst (λ k. P (status.Limit k)) (sym h.0) (long (h.1 told))
+  fetch_stops P status.Desk h told long failed spent = failed
+  fetch_stops P status.Memory h told long failed spent = spent
+  fetch_stops P (status.Done x) h told long failed spent = absurd h
+  fetch_stops P (status.Text x) h told long failed spent = absurd h
+  fetch_stops P status.Usage h told long failed spent = absurd h
+  fetch_stops P (status.Rule x) h told long failed spent = absurd h
+  fetch_stops P (status.Budget x) h told long failed spent = absurd h
+  fetch_stops P (status.BadRecord x) h told long failed spent = absurd h
+
+  pub unfetched_placeless : (s : Status) → HasNoPlace (status.Limit passed) → StopsFetch most passed before name s → HasNoPlace s
+  unfetched_placeless (status.Limit l) bytes h = subst (λ k. HasNoPlace (status.Limit k)) (sym h.0) bytes
+  unfetched_placeless status.Desk bytes h = tt
+  unfetched_placeless status.Memory bytes h = tt
+  unfetched_placeless (status.Done x) bytes h = tt
+  unfetched_placeless (status.Text x) bytes h = absurd h
+  unfetched_placeless status.Usage bytes h = tt
+  unfetched_placeless (status.Rule x) bytes h = absurd h
+  unfetched_placeless (status.Budget x) bytes h = absurd h
+  unfetched_placeless (status.BadRecord x) bytes h = tt
+
+  pub unfetched_known : (s : Status) → StopsFetch most passed before name s → s ≡ status.Usage → ⊥
+  unfetched_known s h e = subst (StopsFetch most passed before name) e h
+
+pub unfetched_checks : (before after : Seen) (book out : List ℕ) (budget : ℕ) (s : Status) → StopsFetch book_limit limit.BookBytes before book s → after.files ≡ before.files
+    → IsTrue before.tells_files → Checks budget before.files after.files book out s
+unfetched_checks before after book out budget s h same told =
+    let out_same = ap (λ (files : Files). files out) same in
+    fetch_stops book_limit limit.BookBytes before book (λ answer. Checks budget before.files after.files book out answer) s h told (λ long. Checks.too_long long same) (Checks.desk (untouched out_same)) (Checks.memory (untouched out_same))
+
+pub unfetched_verifies : (before after : Seen) (deriv : List ℕ) (s : Status) → StopsFetch derivation_limit limit.DerivBytes before deriv s → after.files ≡ before.files
+    → IsTrue before.tells_files → Verifies before.files after.files deriv s
+unfetched_verifies before after deriv s h same told =
+    fetch_stops derivation_limit limit.DerivBytes before deriv (λ answer. Verifies before.files after.files deriv answer) s h told (λ long. Verifies.too_long long same) (Verifies.desk same) (Verifies.memory same)
+
+-- the answer for the bytes of a derivation file that was fetched
+pub bytes_verify : (before after : Files) (deriv bytes other : List ℕ) (s : Status) → AnswersBytes other s → other ≡ bytes → IsFetchedWithin derivation_limit before deriv bytes
+    → after ≡ before → Verifies before after deriv s
+bytes_verify before after deriv bytes other s h is fetched same =
+    let P : List ℕ → Type 0 = λ b. AnswersBytes b s in
+    by_answer s (subst P is h)
+  where
+    by_answer : (s : Status) → AnswersBytes bytes s → Verifies before after deriv s
+    by_answer (status.Done summary) h = Verifies.done bytes fetched h same
+    by_answer (status.BadRecord fault) h = Verifies.bad_record bytes fetched h same
+    by_answer status.Memory h = Verifies.memory same
+    by_answer status.Desk h = absurd h
+    by_answer (status.Limit x) h = absurd h
+    by_answer (status.Text x) h = absurd h
+    by_answer status.Usage h = absurd h
+    by_answer (status.Rule x) h = absurd h
+    by_answer (status.Budget x) h = absurd h
+
+-- the answer for bytes that are refused
+pub refused_bytes : (bytes : List ℕ) (f : RecordFault) (s : Status) → ChecksFile bytes (Err f) → s ≡ refusal_of f → AnswersBytes bytes s
+refused_bytes bytes f s h is = subst (AnswersBytes bytes) (sym is) (by_fault f h)
+  where
+    by_fault : (f : RecordFault) → ChecksFile bytes (Err f) → AnswersBytes bytes (refusal_of f)
+    by_fault (record_fault.Malformed at) h = record { first = h.0; none = h.1 }
+    by_fault record_fault.Unfinished h = record { first = h.0; none = h.1 }
+    by_fault (record_fault.BadRef n) h = record { first = h.0; none = h.1 }
+    by_fault (record_fault.BadStep n) h = record { first = h.0; none = h.1 }
+    by_fault record_fault.Memory h = tt
 
 -- ---- words that memory didn't suffice to read
 
 pub unread_outcome : (files : Files) (words : List (List ℕ)) → IsDecided words → Outcome files files words status.Memory
-unread_outcome files words (inl check) = top.check check.0 check.1 check.2 check.3 (top.memory (untouched refl))
-unread_outcome files words (inr unknown) = top.no_command unknown tt refl
+unread_outcome files words (check book out budget asked) = Outcome.check book out budget asked (Checks.memory (untouched refl))
+unread_outcome files words (verify deriv asked) = Outcome.verify deriv asked (Verifies.memory refl)
+unread_outcome files words (nothing unknown) = Outcome.no_command unknown tt refl
 
 pub unread_says : (s : Seen) (words : List (List ℕ)) → IsDecided words → SaysOf s s words status.Memory
-unread_says s words (inl check) =
-    says_placeless s s s words [] status.Memory status.Memory refl tt (λ told. unread_outcome s.files words (inl check)) (λ unknown. absurd (unknown check.0 check.1 check.2 check.3)) (inl refl) (inr refl)
-unread_says s words (inr unknown) =
-    says_placeless s s s words [] status.Usage status.Memory refl tt (λ told. top.no_command unknown tt refl) (λ h. refl) (inr ((λ e. cc), inr refl)) (inr refl)
+unread_says s words (check book out budget asked) =
+    says_placeless s s s words subject.Book [] status.Memory status.Memory (on_book asked) refl tt (λ told. unread_outcome s.files words (check book out budget asked))
+    (λ unknown. absurd (unknown.no_check book out budget asked)) (inl refl) (inr refl)
+unread_says s words (verify deriv asked) =
+    says_placeless s s s words subject.Derivation [] status.Memory status.Memory (on_derivation asked) refl tt (λ told. unread_outcome s.files words (verify deriv asked))
+    (λ unknown. absurd (unknown.no_verify deriv asked)) (inl refl) (inr refl)
+unread_says s words (nothing unknown) =
+    says_placeless s s s words subject.Book [] status.Usage status.Memory (on_nothing subject.Book unknown) refl tt (λ told. Outcome.no_command unknown tt refl) (λ h. refl)
+    (inr ((λ e. cc), inr refl)) (inr refl)

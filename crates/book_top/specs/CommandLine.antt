@@ -1,12 +1,14 @@
 -- The command line as `clap` sees it: three positionals and one option.
-use Rattle.std.specs.Prelude.{◌≡◌, ◌≢◌, ◌≤◌, length, List, ℕ, [], ◌∷◌, ◌++◌, true, Some, Option, codes, MatchOption}
+use Rattle.std.specs.Prelude.{◌≡◌, ◌≢◌, ◌≤◌, length, List, ℕ, [], ◌∷◌, ◌++◌, true, None, Some, Option, codes, MatchOption}
 use Rattle.clap.specs.Walk.{Rule, rows_of}
 use Rattle.clap.specs.Matches.{found_of}
 use Rattle.clap.specs.Simple.{App, new_app, new_rule, with_rule, on_top, matches_of}
 use Rattle.clap.specs.Faults.{fault_of}
 use Rattle.clap.specs.declared.parser.matches.ArgMatches.{ArgMatches}
-use Rattle.book_top.specs.Words.{listed, Arranges, HasBudget}
+use Rattle.book_top.specs.Words.{listed, Arranges, HasBudget, IsCheck, IsVerify, IsNoCommand}
 use Rattle.book_top.specs.declared.words.Given.{Given}
+use Rattle.book_top.specs.declared.words.Command.{Command}
+use Rattle.book_top.specs.declared.words.Command.TheVariants as command
 
 -- the option
 abbrev pub budget_rule : Rule
@@ -18,7 +20,7 @@ bare = on_top (λ s. record s { no_binary_name = true; disable_help_flag = true;
 
 -- the whole command line
 abbrev pub line : App
-line = with_rule (with_rule (with_rule (with_rule bare (new_rule (codes "command"))) (new_rule (codes "book"))) (new_rule (codes "out"))) budget_rule
+line = with_rule (with_rule (with_rule (with_rule bare (new_rule (codes "command"))) (new_rule (codes "file"))) (new_rule (codes "out"))) budget_rule
 
 -- what `clap` finds in the words, or that it refuses them
 abbrev pub Finds : List (List ℕ) → Option ArgMatches → Type 0
@@ -30,12 +32,39 @@ Exceeds words = (positionals budgets : List (List ℕ)) → Arranges words posit
 
 -- the positionals that were given
 abbrev pub positionals : Given → List (List ℕ)
-positionals given = listed given.command ++ (listed given.book ++ listed given.out)
+positionals given = listed given.command ++ (listed given.file ++ listed given.out)
 
--- positionals and texts of budgets that ask for a check
-pub record Asks (positionals budgets : List (List ℕ)) (book out : List ℕ) (budget : ℕ) : Type 0 where
+-- no positional is missing before one that was given
+pub record AreInOrder (given : Given) : Type 0 where
+  pub file : given.command ≡ None → given.file ≡ None
+  pub out : given.file ≡ None → given.out ≡ None
+
+-- the words are the positionals and the text of a budget that were given
+pub record IsGiven (words : List (List ℕ)) (given : Given) : Type 0 where
+  pub arranges : Arranges words (positionals given) (listed given.budget)
+  pub order : AreInOrder given
+
+-- positionals and texts of budgets that ask for a check, for a verification, or for nothing that is known
+pub record AskCheck (positionals budgets : List (List ℕ)) (book out : List ℕ) (budget : ℕ) : Type 0 where
   pub positionals_are : positionals ≡ codes "check" ∷ book ∷ out ∷ []
   pub has_budget : HasBudget budgets budget
 
-abbrev pub AsksNothing : (positionals budgets : List (List ℕ)) → Type 0
-AsksNothing positionals budgets = (book out : List ℕ) (budget : ℕ) → Asks positionals budgets book out budget → ⊥
+pub record AskVerify (positionals budgets : List (List ℕ)) (deriv : List ℕ) : Type 0 where
+  pub budget : ℕ
+  pub positionals_are : positionals ≡ codes "verify" ∷ deriv ∷ []
+  pub has_budget : HasBudget budgets budget
+
+pub record AskNothing (positionals budgets : List (List ℕ)) : Type 0 where
+  pub no_check : (book out : List ℕ) (budget : ℕ) → AskCheck positionals budgets book out budget → ⊥
+  pub no_verify : (deriv : List ℕ) → AskVerify positionals budgets deriv → ⊥
+
+abbrev pub AskFor : (positionals budgets : List (List ℕ)) → Option Command → Type 0
+AskFor positionals budgets (Some (command.Check c)) = AskCheck positionals budgets c.book.now c.out.now c.budget
+AskFor positionals budgets (Some (command.Verify deriv)) = AskVerify positionals budgets deriv.now
+AskFor positionals budgets None = AskNothing positionals budgets
+
+-- what the words ask for
+abbrev pub AreAsked : List (List ℕ) → Option Command → Type 0
+AreAsked words (Some (command.Check c)) = IsCheck words c.book.now c.out.now c.budget
+AreAsked words (Some (command.Verify deriv)) = IsVerify words deriv.now
+AreAsked words None = IsNoCommand words

@@ -14,3 +14,4 @@ pub mod Told
 pub mod Chunks
 pub mod Checked
 pub mod Said
+pub mod Fetched

@@ -8,6 +8,10 @@ use Rattle.ld_infer.specs.declared.failure.RuleName.{RuleName}
 use Rattle.ld_infer.specs.declared.failure.RuleName.TheVariants as rule
 use Rattle.ld_infer.specs.declared.failure.PathStep.{PathStep}
 use Rattle.ld_infer.specs.declared.failure.PathStep.TheVariants as step
+use Rattle.dr_text.specs.declared.reader.RecordFault.{RecordFault}
+use Rattle.dr_text.specs.declared.reader.RecordFault.TheVariants as record_fault
+use Rattle.book_top.specs.declared.report.Subject.{Subject}
+use Rattle.book_top.specs.declared.report.Subject.TheVariants as subject
 use Rattle.book_top.specs.declared.status.Status.{Status}
 use Rattle.book_top.specs.declared.status.Status.TheVariants as status
 use Rattle.book_top.specs.declared.status.Summary.{Summary}
@@ -20,8 +24,16 @@ use Rattle.book_top.specs.declared.status.Want.TheVariants as want
 use Rattle.book_top.specs.declared.status.LimitFault.{LimitFault}
 use Rattle.book_top.specs.declared.status.LimitFault.TheVariants as limit
 
-abbrev pub done_text : Summary → List ℕ
-done_text s = codes "done: " ++ decimal s.items ++ codes " items, " ++ decimal s.entries ++ codes " entries, " ++ decimal s.steps ++ codes " steps\n"
+abbrev pub counts_text : Summary → List ℕ
+counts_text s = codes "done: " ++ decimal s.items ++ codes " items, " ++ decimal s.entries ++ codes " entries, " ++ decimal s.steps ++ codes " steps\n"
+
+abbrev pub entries_text : (entries : ℕ) → List ℕ
+entries_text entries = codes "done: " ++ decimal entries ++ codes " entries\n"
+
+-- of a derivation file only the entries are counted
+abbrev pub done_text : Subject → Summary → List ℕ
+done_text subject.Book s = counts_text s
+done_text subject.Derivation s = entries_text s.entries
 
 -- the line and the column of an offset
 abbrev pub place_text : (text : List ℕ) → (offset : ℕ) → List ℕ
@@ -85,6 +97,7 @@ rule_text f = codes "rule " ++ rule_name f.rule ++ codes " " ++ decimal f.premis
 
 abbrev pub limit_text : (text : List ℕ) → LimitFault → List ℕ
 limit_text text limit.BookBytes = codes "limit: book bytes\n"
+limit_text text limit.DerivBytes = codes "limit: derivation bytes\n"
 limit_text text (limit.Nesting at) = place_text text at ++ codes "limit: nesting\n"
 limit_text text (limit.Items at) = place_text text at ++ codes "limit: items\n"
 limit_text text (limit.Height at) = place_text text at ++ codes "limit: height\n"
@@ -98,16 +111,31 @@ want_name want.Nesting = codes "nesting"
 abbrev pub budget_text : (text : List ℕ) → BudgetFault → List ℕ
 budget_text text f = place_text text f.at.start ++ codes "budget: " ++ want_name f.want ++ codes "\n"
 
--- the report of an answer on the book with this text
-abbrev pub report_of : (text : List ℕ) → Status → List ℕ
-report_of text (status.Done s) = done_text s
-report_of text (status.Text f) = place_text text f.at.start ++ codes "text: " ++ what_text text f.at f.what ++ codes "\n"
-report_of text status.Usage = codes "usage: flagbook check BOOK OUT, verify DERIV, print BOOK NAME, term BOOK TEXT, gen N OUT, with --budget N\n"
-report_of text (status.Rule f) = place_text text f.at.start ++ rule_text f
-report_of text (status.Budget f) = budget_text text f
-report_of text status.Desk = []
-report_of text (status.Limit l) = limit_text text l
-report_of text status.Memory = codes "memory\n"
+abbrev pub offset_text : (offset : ℕ) → List ℕ
+offset_text at = codes "offset " ++ decimal at ++ codes ": malformed\n"
+
+abbrev pub wrong_text : (number : ℕ) → (wrong : List ℕ) → List ℕ
+wrong_text number wrong = codes "record " ++ decimal number ++ codes ": " ++ wrong ++ codes "\n"
+
+-- the first fault of a derivation file; want of memory has an answer of its own
+abbrev pub record_text : RecordFault → List ℕ
+record_text (record_fault.Malformed at) = offset_text at
+record_text record_fault.Unfinished = codes "unfinished\n"
+record_text (record_fault.BadRef number) = wrong_text number (codes "reference")
+record_text (record_fault.BadStep number) = wrong_text number (codes "step")
+record_text record_fault.Memory = codes "memory\n"
+
+-- the report of an answer on the book with this text, or on a derivation file
+abbrev pub report_of : Subject → (text : List ℕ) → Status → List ℕ
+report_of about text (status.Done s) = done_text about s
+report_of about text (status.Text f) = place_text text f.at.start ++ codes "text: " ++ what_text text f.at f.what ++ codes "\n"
+report_of about text status.Usage = codes "usage: flagbook check BOOK OUT, verify DERIV, print BOOK NAME, term BOOK TEXT, gen N OUT, with --budget N\n"
+report_of about text (status.Rule f) = place_text text f.at.start ++ rule_text f
+report_of about text (status.Budget f) = budget_text text f
+report_of about text status.Desk = []
+report_of about text (status.Limit l) = limit_text text l
+report_of about text status.Memory = codes "memory\n"
+report_of about text (status.BadRecord f) = record_text f
 
 abbrev pub code_of : Status → ℕ
 code_of (status.Done s) = 0
@@ -118,3 +146,4 @@ code_of (status.Budget f) = 4
 code_of status.Desk = 5
 code_of (status.Limit l) = 6
 code_of status.Memory = 7
+code_of (status.BadRecord f) = 8

@@ -1,5 +1,7 @@
 -- What the top call answers, and what stands in the files then.
-use Rattle.std.specs.Prelude.{◌≡◌, ◌≢◌, ◌⊎◌, ◌<◌, ◌≤◌, ◌+◌, ℕ, ⊤, List, ◌++◌, length, take, Option, Some}
+use Rattle.std.specs.Prelude.{◌≡◌, ◌≢◌, ◌⊎◌, ◌<◌, ◌≤◌, ◌+◌, ℕ, ⊤, List, ◌++◌, length, take, Option, Some, None}
+use Rattle.ld_terms.specs.Derivable.{IsLegal}
+use Rattle.ld_terms.specs.Entry.{Env}
 use Rattle.ld_terms.specs.Known.{Note}
 use Rattle.fb_base.specs.declared.places.Span.{Span}
 use Rattle.fb_lex.specs.declared.tokens.LexFault.TheVariants.{BadByte, LongName}
@@ -8,7 +10,10 @@ use Rattle.fb_parse.specs.declared.fault.ParseFault.TheVariants as parse
 use Rattle.fb_parse.specs.Items.{SurfaceItem}
 use Rattle.fb_parse.specs.Texts.{IsBookText, BeginsBook, Refuses}
 use Rattle.dr_text.specs.Derives.{Derives}
+use Rattle.dr_text.specs.declared.reader.RecordFault.{RecordFault}
+use Rattle.dr_check.specs.Faults.{IsFirstFault}
 use Rattle.ld_infer.specs.Reading as rule
+use Rattle.book_top.specs.declared.report.Subject.{Subject}
 use Rattle.book_top.specs.declared.status.Status.{Status}
 use Rattle.book_top.specs.declared.status.Status.TheVariants as status
 use Rattle.book_top.specs.declared.status.Summary.{Summary}
@@ -26,17 +31,30 @@ use Rattle.book_top.specs.Names.{fault_at}
 use Rattle.book_top.specs.Verdict as verdict
 use Rattle.book_top.specs.Book.{Book, empty}
 use Rattle.book_top.specs.Spells.{Spells, Accepts, FirstRefused}
-use Rattle.book_top.specs.Words.{IsCheck, IsNoCommand}
+use Rattle.book_top.specs.Words.{IsCheck, IsVerify, IsNoCommand}
 use Rattle.book_top.specs.Report.{report_of}
 use Rattle.book_top.specs.Left.{Files, content, IsFront, IsKept, IsLeft}
 
 abbrev pub book_limit : ℕ
 book_limit = 4_194_304
 
--- a book as it is fetched, within its limit
-pub record IsFetched (before : Files) (book text : List ℕ) : Type 0 where
-  pub there : before book ≡ Some text
-  pub short : length text ≤ book_limit
+abbrev pub derivation_limit : ℕ
+derivation_limit = 536_870_912
+
+-- a file as it is fetched, within a limit
+pub record IsFetchedWithin (limit : ℕ) (before : Files) (name bytes : List ℕ) : Type 0 where
+  pub there : before name ≡ Some bytes
+  pub short : length bytes ≤ limit
+
+-- a file that is longer than a limit
+pub record IsLonger (limit : ℕ) (before : Files) (name : List ℕ) : Type 0 where
+  pub bytes : List ℕ
+  pub there : before name ≡ Some bytes
+  pub long : limit < length bytes
+
+-- a book as it is fetched
+abbrev pub IsFetched : Files → (book text : List ℕ) → Type 0
+IsFetched before book text = IsFetchedWithin book_limit before book text
 
 -- a fault at an offset
 abbrev pub fault_behind : TextWhat → ℕ → TextFault
@@ -145,25 +163,57 @@ pub data Leaves (Begun : List SurfaceItem → Option (List ℕ) → Type 0) (bef
 -- What a check of the book under the budget answers, and what stands in the files then.
 pub data Checks (budget : ℕ) (before after : Files) (book out : List ℕ) : Status → Type 0 where
   done : {summary : Summary} → IsDone budget before after book out summary → Checks budget before after book out (status.Done summary)
-  too_long : (text : List ℕ) → before book ≡ Some text → book_limit < length text → after ≡ before → Checks budget before after book out (status.Limit limit.BookBytes)
+  too_long : IsLonger book_limit before book → after ≡ before → Checks budget before after book out (status.Limit limit.BookBytes)
   no_book : {answer : Status} → IsNoBook before book answer → after ≡ before → Checks budget before after book out answer
   item_refused : {answer : Status} → IsItemRefused budget before after book out answer → Checks budget before after book out answer
   -- a call on the desk failed, or memory ran out
   desk : Leaves (IsLeft budget) before after book out → Checks budget before after book out status.Desk
   memory : Leaves (IsKept budget) before after book out → Checks budget before after book out status.Memory
 
+-- The bytes are a derivation of a legal environment, of whose entries the number is counted.
+pub record IsVerified (bytes : List ℕ) (summary : Summary) : Type 0 where
+  pub entries : Env
+  pub notes : List Note
+  pub derives : Derives bytes entries notes
+  pub legal : IsLegal entries
+  pub items_are : summary.items ≡ 0
+  pub entries_are : summary.entries ≡ length entries
+  pub steps_are : summary.steps ≡ 0
+
+-- The bytes have this first fault, and derive nothing.
+pub record IsRefused (bytes : List ℕ) (fault : RecordFault) : Type 0 where
+  pub first : IsFirstFault bytes fault
+  pub none : (entries : Env) (notes : List Note) → Derives bytes entries notes → ⊥
+
+-- What the verification of a derivation file answers. The files stay as they are.
+pub data Verifies (before after : Files) (deriv : List ℕ) : Status → Type 0 where
+  done : {summary : Summary} (bytes : List ℕ) → IsFetchedWithin derivation_limit before deriv bytes → IsVerified bytes summary → after ≡ before →
+      Verifies before after deriv (status.Done summary)
+  too_long : IsLonger derivation_limit before deriv → after ≡ before → Verifies before after deriv (status.Limit limit.DerivBytes)
+  bad_record : {fault : RecordFault} (bytes : List ℕ) → IsFetchedWithin derivation_limit before deriv bytes → IsRefused bytes fault → after ≡ before →
+      Verifies before after deriv (status.BadRecord fault)
+  -- a call on the desk failed, or memory ran out
+  desk : after ≡ before → Verifies before after deriv status.Desk
+  memory : after ≡ before → Verifies before after deriv status.Memory
+
 -- What is answered, and what stands in the files then.
 pub data Outcome (before after : Files) (words : List (List ℕ)) : Status → Type 0 where
   check : {answer : Status} (book out : List ℕ) (budget : ℕ) → IsCheck words book out budget → Checks budget before after book out answer → Outcome before after words answer
+  verify : {answer : Status} (deriv : List ℕ) → IsVerify words deriv → Verifies before after deriv answer → Outcome before after words answer
   -- The words ask for nothing that is known. The report may have failed.
   no_command : {answer : Status} → IsNoCommand words → AnswersNoCommand answer → after ≡ before → Outcome before after words answer
 
--- What was said: the report of the answer on the book with this text. A desk that failed may have said a front of the report of the
+-- the file that the words ask to be fetched isn't there
+pub data IsAbsent (files : Files) (words : List (List ℕ)) : Type 0 where
+  book : (book out : List ℕ) (budget : ℕ) → IsCheck words book out budget → files book ≡ None → IsAbsent files words
+  derivation : (deriv : List ℕ) → IsVerify words deriv → files deriv ≡ None → IsAbsent files words
+
+-- What was said: the report of the answer on the book with this text, or on a derivation file. A desk that failed may have said a front of the report of the
 -- answer that was given before, and without memory nothing is said.
-abbrev pub IsSaid : (text : List ℕ) → (given : Status) → (before after : List ℕ) → Status → Type 0
-IsSaid text given before after status.Desk = (n : ℕ) × (after ≡ before ++ take n (report_of text given))
-IsSaid text given before after status.Memory = (after ≡ before ++ report_of text status.Memory) ⊎ (after ≡ before)
-IsSaid text given before after answer = after ≡ before ++ report_of text answer
+abbrev pub IsSaid : Subject → (text : List ℕ) → (given : Status) → (before after : List ℕ) → Status → Type 0
+IsSaid about text given before after status.Desk = (n : ℕ) × (after ≡ before ++ take n (report_of about text given))
+IsSaid about text given before after status.Memory = (after ≡ before ++ report_of about text status.Memory) ⊎ (after ≡ before)
+IsSaid about text given before after answer = after ≡ before ++ report_of about text answer
 
 -- The answer is the given one, or the given one couldn't be said.
 abbrev pub IsAnswerOf : (given answer : Status) → Type 0

@@ -1,5 +1,5 @@
 -- The words of the command line, without the program's name.
-use Rattle.std.specs.Prelude.{◌≡◌, ◌⊎◌, ◌≤◌, ℕ, Bool, false, ◌==◌, List, [], ◌∷◌, ◌++◌, map, length, codes, Option, Some, None}
+use Rattle.std.specs.Prelude.{◌≡◌, ◌≤◌, ℕ, Bool, false, ◌==◌, List, [], ◌∷◌, ◌++◌, map, length, codes, Option, Some, None}
 use Rattle.std.specs.Str.{byte}
 use Rattle.std.specs.Str.Parse.{IsNumeral, digits_value}
 use Rattle.std.specs.Borrow.{Bor}
@@ -48,10 +48,20 @@ pub record IsCheck (words : List (List ℕ)) (book out : List ℕ) (budget : ℕ
   pub arranges : Arranges words (codes "check" ∷ book ∷ out ∷ []) budgets
   pub has_budget : HasBudget budgets budget
 
--- the words ask for nothing that is known
-abbrev pub IsNoCommand : List (List ℕ) → Type 0
-IsNoCommand words = (book out : List ℕ) (budget : ℕ) → IsCheck words book out budget → ⊥
+-- the words ask for the verification of a derivation file; they may give a budget, which has no effect
+pub record IsVerify (words : List (List ℕ)) (deriv : List ℕ) : Type 0 where
+  pub budgets : List (List ℕ)
+  pub budget : ℕ
+  pub arranges : Arranges words (codes "verify" ∷ deriv ∷ []) budgets
+  pub has_budget : HasBudget budgets budget
 
--- the words ask for a check, or for nothing that is known
-abbrev pub IsDecided : List (List ℕ) → Type 0
-IsDecided words = ((book : List ℕ) × (out : List ℕ) × (budget : ℕ) × IsCheck words book out budget) ⊎ IsNoCommand words
+-- the words ask for nothing that is known
+pub record IsNoCommand (words : List (List ℕ)) : Type 0 where
+  pub no_check : (book out : List ℕ) (budget : ℕ) → IsCheck words book out budget → ⊥
+  pub no_verify : (deriv : List ℕ) → IsVerify words deriv → ⊥
+
+-- the words ask for one of these
+pub data IsDecided (words : List (List ℕ)) : Type 0 where
+  check : (book out : List ℕ) (budget : ℕ) → IsCheck words book out budget → IsDecided words
+  verify : (deriv : List ℕ) → IsVerify words deriv → IsDecided words
+  nothing : IsNoCommand words → IsDecided words

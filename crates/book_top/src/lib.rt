@@ -1,8 +1,9 @@
-//! The top call: from the words of the command line to the derivation file and the report.
+//! The top call: from the words of the command line to the derivation file, or from one, and the report.
 #![tactic(auto)]
 
 mod build;
 mod check;
+mod fetch;
 mod item;
 #[cfg(test)]
 mod name_tests;
@@ -16,6 +17,9 @@ mod status;
 #[cfg(test)]
 mod tests;
 mod top;
+mod verify;
+#[cfg(test)]
+mod verify_tests;
 mod words;
 
 pub use status::{

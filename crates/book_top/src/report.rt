@@ -7,6 +7,7 @@ ghost use Rattle.book_top.specs.Report as said;
 use crate::status::{
     BudgetFault, LimitFault, RuleFault, Status, Summary, TextFault, TextWhat, Want,
 };
+use dr_text::reader::RecordFault;
 use fb_base::{NoMemory, Span, place};
 use ld_infer::{Path, PathStep, RuleName};
 use std::alloc::Global;
@@ -14,15 +15,28 @@ use std::alloc::Global;
 const USAGE: &str =
     "usage: flagbook check BOOK OUT, verify DERIV, print BOOK NAME, term BOOK TEXT, gen N OUT, with --budget N\n";
 
-/// The report of an answer on the book with this text, one line, or nothing where a call on the desk failed.
+/// What an answer is on.
+#[derive(Clone, Copy, Debug, PartialEq, Eq)]
+pub enum Subject {
+    Book,
+    Derivation,
+}
+
+/// The report of an answer, one line, or nothing where a call on the desk failed. The text is the book's.
 ///
-/// A place is a line and a column, both from 1, a column in characters.
-pub fn report(alloc: Global, text: &[u8], status: &Status) -> Result<Vec<u8>, NoMemory>
-    ensures { IfOk result (λ bytes. bytes.items ≡ said.report_of text.now status.now) }
+/// A place in a book is a line and a column, both from 1, a column in characters; one in a derivation file is an offset in
+/// bytes or the number of a record, both from 0.
+pub fn report(
+    alloc: Global,
+    subject: Subject,
+    text: &[u8],
+    status: &Status,
+) -> Result<Vec<u8>, NoMemory>
+    ensures { IfOk result (λ bytes. bytes.items ≡ said.report_of subject text.now status.now) }
 {
     let mut out = Vec::new(alloc);
     match status {
-        Status::Done(summary) => push_done(alloc, summary, &mut out)?,
+        Status::Done(summary) => push_done(alloc, subject, summary, &mut out)?,
         Status::Text(fault) => push_fault(alloc, text, fault, &mut out)?,
         Status::Usage => push(USAGE, &mut out)?,
         Status::Rule(fault) => push_rule(alloc, text, fault, &mut out)?,
@@ -30,6 +44,7 @@ pub fn report(alloc: Global, text: &[u8], status: &Status) -> Result<Vec<u8>, No
         Status::Desk => {}
         Status::Limit(limit) => push_limit(alloc, text, *limit, &mut out)?,
         Status::Memory => push("memory\n", &mut out)?,
+        Status::BadRecord(fault) => push_record_fault(alloc, *fault, &mut out)?,
     }
     Ok(out)
 }
@@ -46,8 +61,22 @@ fn push_bytes(bytes: &[u8], out: &mut Vec<u8>) -> Result<(), NoMemory>
     out.extend_from_slice(bytes).map_err(|_| NoMemory)
 }
 
-fn push_done(alloc: Global, summary: &Summary, out: &mut Vec<u8>) -> Result<(), NoMemory>
-    ensures { OnOk result (out.new.items ≡ out.old.items ++ said.done_text summary.now) }
+fn push_done(
+    alloc: Global,
+    subject: Subject,
+    summary: &Summary,
+    out: &mut Vec<u8>,
+) -> Result<(), NoMemory>
+    ensures { OnOk result (out.new.items ≡ out.old.items ++ said.done_text subject summary.now) }
+{
+    match subject {
+        Subject::Book => push_counts(alloc, summary, out),
+        Subject::Derivation => push_entries(alloc, summary.entries, out),
+    }
+}
+
+fn push_counts(alloc: Global, summary: &Summary, out: &mut Vec<u8>) -> Result<(), NoMemory>
+    ensures { OnOk result (out.new.items ≡ out.old.items ++ said.counts_text summary.now) }
 {
     let Summary {
         items,
@@ -55,6 +84,15 @@ fn push_done(alloc: Global, summary: &Summary, out: &mut Vec<u8>) -> Result<(), 
         steps,
     } = *summary;
     match format!(in alloc; "done: {items} items, {entries} entries, {steps} steps\n") {
+        Ok(words) => push(&words, out),
+        Err(_) => Err(NoMemory),
+    }
+}
+
+fn push_entries(alloc: Global, entries: u64, out: &mut Vec<u8>) -> Result<(), NoMemory>
+    ensures { OnOk result (out.new.items ≡ out.old.items ++ said.entries_text entries) }
+{
+    match format!(in alloc; "done: {entries} entries\n") {
         Ok(words) => push(&words, out),
         Err(_) => Err(NoMemory),
     }
@@ -86,7 +124,7 @@ fn push_fault(
     fault: &TextFault,
     out: &mut Vec<u8>,
 ) -> Result<(), NoMemory>
-    ensures { OnOk result (out.new.items ≡ out.old.items ++ said.report_of text.now (Status.Text fault.now)) }
+    ensures { OnOk result (out.new.items ≡ out.old.items ++ said.report_of Subject.Book text.now (Status.Text fault.now)) }
 {
     push_place(alloc, text, fault.at.start, out)?;
     push("text: ", out)?;
@@ -260,6 +298,7 @@ fn push_limit(
 {
     match limit {
         LimitFault::BookBytes => push("limit: book bytes\n", out),
+        LimitFault::DerivBytes => push("limit: derivation bytes\n", out),
         LimitFault::Nesting(at) => {
             push_place(alloc, text, at, out)?;
             push("limit: nesting\n", out)
@@ -276,5 +315,36 @@ fn push_limit(
             push_place(alloc, text, at, out)?;
             push("limit: flags\n", out)
         }
+    }
+}
+
+fn push_record_fault(alloc: Global, fault: RecordFault, out: &mut Vec<u8>) -> Result<(), NoMemory>
+    ensures { OnOk result (out.new.items ≡ out.old.items ++ said.record_text fault) }
+{
+    match fault {
+        RecordFault::Malformed(at) => push_offset(alloc, at, out),
+        RecordFault::Unfinished => push("unfinished\n", out),
+        RecordFault::BadRef(number) => push_record(alloc, number, "reference", out),
+        RecordFault::BadStep(number) => push_record(alloc, number, "step", out),
+        RecordFault::Memory => push("memory\n", out),
+    }
+}
+
+fn push_offset(alloc: Global, at: usize, out: &mut Vec<u8>) -> Result<(), NoMemory>
+    ensures { OnOk result (out.new.items ≡ out.old.items ++ said.offset_text at) }
+{
+    match format!(in alloc; "offset {at}: malformed\n") {
+        Ok(words) => push(&words, out),
+        Err(_) => Err(NoMemory),
+    }
+}
+
+// What is wrong with the record of a number.
+fn push_record(alloc: Global, number: u64, wrong: &str, out: &mut Vec<u8>) -> Result<(), NoMemory>
+    ensures { OnOk result (out.new.items ≡ out.old.items ++ said.wrong_text number wrong.now) }
+{
+    match format!(in alloc; "record {number}: {wrong}\n") {
+        Ok(words) => push(&words, out),
+        Err(_) => Err(NoMemory),
     }
 }

@@ -1,5 +1,6 @@
 //! What a run answers.
 
+use dr_text::reader::RecordFault;
 use fb_base::Span;
 use ld_infer::{Path, RuleName};
 
@@ -11,7 +12,7 @@ pub enum Side {
 }
 
 /// What a run that did its work counted: the items and entries of the book, and the sum of its items' costs in
-/// steps (docs/calculus.md, "What it costs").
+/// steps (docs/calculus.md, "What it costs"). A verification counts entries alone; the other two are 0.
 #[derive(Clone, Copy, Debug, PartialEq, Eq)]
 pub struct Summary {
     pub items: u64,
@@ -109,6 +110,8 @@ pub struct BudgetFault {
 pub enum LimitFault {
     /// The book has more than 4,194,304 bytes.
     BookBytes,
+    /// The derivation file has more than 536,870,912 bytes.
+    DerivBytes,
     /// A term nested deeper than 500 begins at the offset.
     Nesting(usize),
     /// Item 100,001 begins at the offset.
@@ -122,7 +125,7 @@ pub enum LimitFault {
 /// The answer of a run.
 #[derive(Debug, Drop)]
 pub enum Status {
-    /// The book is accepted, and its derivation written.
+    /// The book is accepted, and its derivation written; or the file is a derivation.
     Done(Summary),
     /// The book has no reading: its text is none, or its first refused item has more bars than flags are open, a taken
     /// name, a name that stands for nothing with the arguments that it is given, or a form that isn't built.
@@ -135,10 +138,12 @@ pub enum Status {
     Budget(BudgetFault),
     /// A file could not be read or written, or the report not said.
     Desk,
-    /// The book passes a limit.
+    /// The book or the derivation file passes a limit.
     Limit(LimitFault),
     /// Memory ran out.
     Memory,
+    /// The file is no derivation: its first fault. For want of memory the answer is `Memory`.
+    BadRecord(RecordFault),
 }
 
 impl Status {
@@ -158,6 +163,7 @@ impl Status {
             Status::Desk => 5,
             Status::Limit(_) => 6,
             Status::Memory => 7,
+            Status::BadRecord(_) => 8,
         }
     }
 }

@@ -1,22 +1,24 @@
 //! The top call: what the words ask for, and one report.
-ghost use Rattle.std.specs.Prelude.{◌≡◌, ◌⊎◌, ◌≤◌, ℕ, List, None, IfOk, IsTrue, IsErrOf, length};
+ghost use Rattle.std.specs.Prelude.{◌≡◌, ◌⊎◌, ◌≤◌, ℕ, List, IsTrue, length};
 ghost use Rattle.fb_base.specs.Desk.{Rose, OthersStay};
-ghost use Rattle.book_top.specs.Words.{texts, IsCheck, IsNoCommand};
+ghost use Rattle.book_top.specs.Words.{texts, IsCheck, IsVerify, IsNoCommand};
 ghost use Rattle.book_top.specs.Desk.{OnlySays};
-ghost use Rattle.book_top.specs.Top.{IsFetched, AnswersNoCommand, Checks, Outcome, IsSaid, IsAnswerOf, IsRule, why_of};
-ghost use Rattle.book_top.specs.Said.{HasNoPlace, SaysOf};
+ghost use Rattle.book_top.specs.Top.{IsFetched, AnswersNoCommand, Checks, Outcome, IsAbsent, IsSaid, IsAnswerOf, IsRule, why_of};
+ghost use Rattle.book_top.specs.Said.{SaysOf};
 ghost use Rattle.book_top.specs.Checked.{AnswersFault, AnswersStop};
 ghost use Rattle.ld_terms.specs.Item.{Item};
 ghost use Rattle.ld_infer.specs.Infers.{refusal_of, reason_of};
 
 use crate::check::{Stop, check_items};
+use crate::fetch::fetch;
 use crate::item::ItemStop;
 use crate::names::fault_at;
-use crate::report::report;
+use crate::report::{Subject, report};
 use crate::status::{
     BudgetFault, LimitFault, RuleFault, Side, Status, TextFault, TextWhat, Want, WhyName,
 };
-use crate::words::read_words;
+use crate::verify::verify;
+use crate::words::{Command, read_words};
 use bumpalo::Bump;
 use fb_base::{Desk, DeskFault, NoMemory, Span};
 use fb_lex::LexFault;
@@ -30,36 +32,49 @@ const BOOK_BYTES: usize = 4_194_304;
 ///
 /// `check BOOK OUT` reads the book, and only when it is parsed begins the file OUT, so that OUT may be the book's own
 /// name. The items are judged in order, each under the flags that its bars leave open and within a budget of steps; the
-/// records of each are written before the next is judged.
+/// records of each are written before the next is judged. `verify DERIV` reads the derivation file DERIV, and judges each
+/// of its records before the next is read; it begins no file.
 pub fn run<D: Desk>(alloc: Global, words: &[&str], desk: &mut D) -> Status
     ensures outcome { IsTrue (D.seen desk.old).tells_files → Outcome (D.seen desk.old).files (D.seen desk.new).files (texts words.now) result }
     ensures usage { result ≡ Status.Usage → IsNoCommand (texts words.now) }
     ensures no_command { IsNoCommand (texts words.now) → AnswersNoCommand result }
     ensures only_says { IsNoCommand (texts words.now) → OnlySays (D.seen desk.old) (D.seen desk.new) }
+    ensures verify_only_says { (deriv : List ℕ) → IsVerify (texts words.now) deriv → OnlySays (D.seen desk.old) (D.seen desk.new) }
     ensures others { (book out : List ℕ) (budget : ℕ) → IsCheck (texts words.now) book out budget → IsTrue (D.seen desk.old).tells_files → OthersStay (D.seen desk.old) (D.seen desk.new) out }
     ensures said { IsTrue (D.seen desk.old).tells_said → SaysOf (D.seen desk.old) (D.seen desk.new) (texts words.now) result }
     ensures desk { result ≡ Status.Desk → Rose (D.seen desk.old).faults (D.seen desk.new).faults }
-    ensures absent { IsTrue (D.seen desk.old).tells_files → IsTrue (D.seen desk.old).sound → result ≡ Status.Desk
-        → (book : List ℕ) × (out : List ℕ) × (budget : ℕ) × IsCheck (texts words.now) book out budget × ((D.seen desk.old).files book ≡ None) }
+    ensures absent { IsTrue (D.seen desk.old).tells_files → IsTrue (D.seen desk.old).sound → result ≡ Status.Desk → IsAbsent (D.seen desk.old).files (texts words.now) }
 {
     match read_words(alloc, words) {
-        Ok(Some(asked)) => match fetch(alloc, desk, asked.book) {
-            Ok(text) => {
-                let status = check(alloc, &text, asked.out, asked.budget, desk);
-                say(alloc, desk, &text, status)
+        Ok(Some(Command::Check(asked))) => {
+            match fetch(alloc, desk, asked.book, BOOK_BYTES, LimitFault::BookBytes) {
+                Ok(text) => {
+                    let status = check(alloc, &text, asked.out, asked.budget, desk);
+                    say(alloc, desk, Subject::Book, &text, status)
+                }
+                Err(status) => say(alloc, desk, Subject::Book, &[], status),
             }
-            Err(status) => say(alloc, desk, &[], status),
-        },
-        Ok(None) => say(alloc, desk, &[], Status::Usage),
+        }
+        Ok(Some(Command::Verify(deriv))) => {
+            let status = verify(alloc, deriv, desk);
+            say(alloc, desk, Subject::Derivation, &[], status)
+        }
+        Ok(None) => say(alloc, desk, Subject::Book, &[], Status::Usage),
         Err(NoMemory) => Status::Memory,
     }
 }
 
-// Says the report of an answer on the book with this text; where that fails, the answer is another.
-fn say<D: Desk>(alloc: Global, desk: &mut D, text: &[u8], status: Status) -> Status
+// Says the report of an answer, on the book with this text or on a derivation file; where that fails, the answer is another.
+fn say<D: Desk>(
+    alloc: Global,
+    desk: &mut D,
+    subject: Subject,
+    text: &[u8],
+    status: Status,
+) -> Status
     ensures same { IsAnswerOf status result }
     ensures only { OnlySays (D.seen desk.old) (D.seen desk.new) }
-    ensures said { IsTrue (D.seen desk.old).tells_said → IsSaid text.now status (D.seen desk.old).said (D.seen desk.new).said result }
+    ensures said { IsTrue (D.seen desk.old).tells_said → IsSaid subject text.now status (D.seen desk.old).said (D.seen desk.new).said result }
     ensures never_falls { (D.seen desk.old).faults ≤ (D.seen desk.new).faults }
     ensures desk { result ≡ Status.Desk → (status ≡ Status.Desk) ⊎ Rose (D.seen desk.old).faults (D.seen desk.new).faults }
     ensures sound { result ≡ Status.Desk → IsTrue (D.seen desk.old).tells_files → IsTrue (D.seen desk.old).sound → status ≡ Status.Desk }
@@ -67,7 +82,7 @@ fn say<D: Desk>(alloc: Global, desk: &mut D, text: &[u8], status: Status) -> Sta
     if let Status::Desk = status {
         return status;
     }
-    let Ok(words) = report(alloc, text, &status) else {
+    let Ok(words) = report(alloc, subject, text, &status) else {
         return Status::Memory;
     };
     match desk.say(&words) {
@@ -101,31 +116,6 @@ fn check<D: Desk>(alloc: Global, text: &[u8], out: &str, budget: u64, desk: &mut
     match check_items(alloc, desk, out, text, parsed.items, budget) {
         Ok(summary) => Status::Done(summary),
         Err(stop) => stop_answer(stop),
-    }
-}
-
-// The whole book.
-fn fetch<D: Desk>(alloc: Global, desk: &mut D, book: &str) -> Result<Vec<u8>, Status>
-    ensures bytes { IfOk result (λ text. IsTrue (D.seen desk.old).tells_files → IsFetched (D.seen desk.old).files book.now text.items) }
-    ensures short { IfOk result (λ text. length text.items ≤ 4194304) }
-    ensures same { D.seen desk.new ≡ record (D.seen desk.old) { faults = (D.seen desk.new).faults } }
-    ensures never_falls { (D.seen desk.old).faults ≤ (D.seen desk.new).faults }
-    ensures desk { IsErrOf result Status.Desk → Rose (D.seen desk.old).faults (D.seen desk.new).faults }
-    ensures placeless { (status : Status) → IsErrOf result status → HasNoPlace status }
-    ensures stopped { (status : Status) → IsErrOf result status → IsTrue (D.seen desk.old).tells_files → (out : List ℕ) (budget : ℕ)
-        → Checks budget (D.seen desk.old).files (D.seen desk.new).files book.now out status }
-    ensures absent { IsErrOf result Status.Desk → IsTrue (D.seen desk.old).tells_files → IsTrue (D.seen desk.old).sound → (D.seen desk.old).files book.now ≡ None }
-    ensures no_usage { IsErrOf result Status.Usage → ⊥ }
-{
-    match desk.fetch(alloc, book, BOOK_BYTES + 1) {
-        Ok(text) => {
-            if text.len() > BOOK_BYTES {
-                return Err(Status::Limit(LimitFault::BookBytes));
-            }
-            Ok(text)
-        }
-        Err(DeskFault::Failed) => Err(Status::Desk),
-        Err(DeskFault::Memory) => Err(Status::Memory),
     }
 }
 

@@ -1,11 +1,11 @@
 //! The words of the command line.
 ghost use Rattle.std.specs.Prelude.{◌≡◌, ℕ, All, IfOk, IfErr, MatchOption, IsUtf8};
 ghost use Rattle.clap.specs.Simple.{app_of};
-ghost use Rattle.book_top.specs.Words.{texts, listed, Arranges, HasBudget, IsCheck, IsNoCommand, IsDecided};
-ghost use Rattle.book_top.specs.CommandLine.{positionals, line, Finds, Exceeds, Asks, AsksNothing};
+ghost use Rattle.book_top.specs.Words.{texts, listed, HasBudget, IsDecided};
+ghost use Rattle.book_top.specs.CommandLine.{positionals, line, Finds, Exceeds, IsGiven, AreInOrder, AreAsked, AskFor};
 
 use clap::error::ErrorKind;
-use clap::{Arg, ArgMatches, Command};
+use clap::{Arg, ArgMatches};
 use fb_base::NoMemory;
 use std::alloc::{AllocError, Global};
 
@@ -18,7 +18,15 @@ const MOST_BUDGET: u64 = 1_000_000_000;
 // How many digits a budget has at most.
 const MOST_DIGITS: usize = 10;
 
-/// What the words ask for: a check of the book, whose derivation goes into the file `out`, within a budget of steps.
+/// What the words ask for.
+#[derive(Clone, Copy)]
+pub enum Command<'a> {
+    Check(Check<'a>),
+    /// A verification of the derivation file of this name.
+    Verify(&'a str),
+}
+
+/// A check of the book, whose derivation goes into the file `out`, within a budget of steps.
 #[derive(Clone, Copy)]
 pub struct Check<'a> {
     pub book: &'a str,
@@ -26,39 +34,40 @@ pub struct Check<'a> {
     pub budget: u64,
 }
 
-// The texts of the positionals, in their order, and that of the budget.
+// The texts of the positionals, in their order, and that of the budget. The file is the one that is fetched.
 #[derive(Clone, Copy)]
 struct Given<'a> {
     command: Option<&'a str>,
-    book: Option<&'a str>,
+    file: Option<&'a str>,
     out: Option<&'a str>,
     budget: Option<&'a str>,
 }
 
 /// What the words ask for, if it is known.
-pub fn read_words<'a>(alloc: Global, words: &'a [&'a str]) -> Result<Option<Check<'a>>, NoMemory>
-    ensures asked { IfOk result (λ asked. MatchOption asked (IsNoCommand (texts words.now)) (λ check. IsCheck (texts words.now) check.book.now check.out.now check.budget)) }
+pub fn read_words<'a>(alloc: Global, words: &'a [&'a str]) -> Result<Option<Command<'a>>, NoMemory>
+    ensures asked { IfOk result (AreAsked (texts words.now)) }
     ensures either { IfErr result (λ _. IsDecided (texts words.now)) }
 {
     are_texts(words);
     match read_given(alloc, words)? {
-        Some(given) => Ok(read_check(given)),
+        Some(given) => Ok(read_command(given)),
         None => Ok(None),
     }
 }
 
-// The check that the texts ask for, if they do.
-fn read_check<'a>(given: Given<'a>) -> Option<Check<'a>>
-    ensures { MatchOption result (AsksNothing (positionals given.entry) (listed given.entry.budget))
-        (λ check. Asks (positionals given.entry) (listed given.entry.budget) check.book.now check.out.now check.budget) }
+// The command that the texts ask for, if they do.
+fn read_command<'a>(given: Given<'a>) -> Option<Command<'a>>
+    requires { AreInOrder given }
+    ensures { AskFor (positionals given.entry) (listed given.entry.budget) result }
 {
-    match (
-        given.command,
-        given.book,
-        given.out,
-        read_budget(given.budget),
-    ) {
-        (Some("check"), Some(book), Some(out), Some(budget)) => Some(Check { book, out, budget }),
+    let Some(budget) = read_budget(given.budget) else {
+        return None;
+    };
+    match (given.command, given.file, given.out) {
+        (Some(command), Some(book), Some(out)) if command == "check" => {
+            Some(Command::Check(Check { book, out, budget }))
+        }
+        (Some(command), Some(deriv), None) if command == "verify" => Some(Command::Verify(deriv)),
         _ => None,
     }
 }
@@ -83,14 +92,14 @@ fn read_budget(text: Option<&str>) -> Option<u64>
 // The texts of the words, if these are at most three positionals and one budget.
 fn read_given<'a>(alloc: Global, words: &'a [&'a str]) -> Result<Option<Given<'a>>, NoMemory>
     requires { All (λ w. IsUtf8 w.now) words.now }
-    ensures { IfOk result (λ found. MatchOption found (Exceeds (texts words.now)) (λ given. Arranges (texts words.now) (positionals given) (listed given.budget))) }
+    ensures { IfOk result (λ found. MatchOption found (Exceeds (texts words.now)) (IsGiven (texts words.now))) }
 {
     let Some(matches) = found(alloc, words)? else {
         return Ok(None);
     };
     Ok(Some(Given {
         command: matches.get_str("command"),
-        book: matches.get_str("book"),
+        file: matches.get_str("file"),
         out: matches.get_str("out"),
         budget: matches.get_str("budget"),
     }))
@@ -111,16 +120,16 @@ fn found<'a>(alloc: Global, words: &'a [&'a str]) -> Result<Option<ArgMatches<'a
 }
 
 // The command line as `clap` reads it.
-fn command_line<'a>(alloc: Global) -> Result<Command<'a>, AllocError>
+fn command_line<'a>(alloc: Global) -> Result<clap::Command<'a>, AllocError>
     ensures { IfOk result (λ c. app_of c ≡ line) }
 {
     let budget = Arg::new(alloc, "budget").long("budget");
-    Command::new(alloc, "flagbook")
+    clap::Command::new(alloc, "flagbook")
         .no_binary_name(true)
         .disable_help_flag(true)
         .disable_version_flag(true)
         .arg(Arg::new(alloc, "command"))?
-        .arg(Arg::new(alloc, "book"))?
+        .arg(Arg::new(alloc, "file"))?
         .arg(Arg::new(alloc, "out"))?
         .arg(budget)
 }

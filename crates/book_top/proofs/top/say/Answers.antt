@@ -2,4 +2,4 @@ use Rattle.book_top.proofs.Runs.{said_nothing}
 use Rattle.book_top.proofs.top.say.Goals as goal
 
 pub returns-in-Desk-clause-said : goal.returns-in-Desk-clause-said
-returns-in-Desk-clause-said g c = λ told. said_nothing c.args.text.now _ _ c.in-Desk.is
+returns-in-Desk-clause-said g c = λ told. said_nothing c.args.subject c.args.text.now _ _ c.in-Desk.is
