@@ -9,3 +9,4 @@ pub mod Meeting
 pub mod Decoding
 pub mod Refusing
 pub mod Walking
+pub mod OneFault

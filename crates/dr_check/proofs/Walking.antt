@@ -28,7 +28,7 @@ refused_next old new read s t number Memory h k = tt
 refused_next old new read s t number (Malformed at) h k = absurd k
 refused_next old new read s t number Unfinished h k = absurd k
 
-spelling-push : (rs : List Record) (r : Record) → spelling (rs ++ r ∷ []) ≡ spelling rs ++ record_bytes r
+pub spelling-push : (rs : List Record) (r : Record) → spelling (rs ++ r ∷ []) ≡ spelling rs ++ record_bytes r
 spelling-push rs r =
     ap (λ xs. header ++ xs) (records_bytes-append rs (r ∷ []) ∙ ap (λ xs. records_bytes rs ++ xs) (append-nil (record_bytes r)))
     ∙ sym (append_assoc header (records_bytes rs) (record_bytes r))

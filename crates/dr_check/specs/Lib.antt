@@ -8,3 +8,4 @@ pub mod Judging
 pub mod Decoded
 pub mod Faults
 pub mod Checks
+pub mod Laws

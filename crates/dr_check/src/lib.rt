@@ -10,6 +10,7 @@ mod follow;
 mod instance;
 mod judge;
 mod known;
+pub mod laws;
 mod make;
 mod meets;
 mod rules;
