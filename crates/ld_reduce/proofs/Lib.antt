@@ -7,3 +7,4 @@ mod Walks
 mod Turns
 pub mod Once
 pub mod CallerLemmas
+mod Sampled

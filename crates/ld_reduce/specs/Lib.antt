@@ -4,3 +4,4 @@ pub mod Work
 pub mod Cost
 pub mod Steps
 pub mod Laws
+pub mod Samples

@@ -7,6 +7,8 @@ mod head;
 mod join;
 pub mod laws;
 mod reduce;
+#[cfg(test)]
+mod sample;
 mod step;
 mod stop;
 #[cfg(test)]

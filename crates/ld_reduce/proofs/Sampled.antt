@@ -1,0 +1,133 @@
+-- The rules by which the judgements of the tests follow.
+use Rattle.std.proofs.Common.{◌≡◌, ◌<◌, ◌≤◌, ◌++◌, ◌∷◌, [], false, length, Contains, All, Option, Some, ℕ, List, refl, ap, sym, ◌∙◌, subst, arith}
+use Rattle.std.proofs.lemmas.List.Elements.{All-nil, All-cons}
+use mathlib.Core.Path.{ap₂}
+use Rattle.ld_terms.specs.Tree.{Tree, Trees, Star, Box, Var, Lam, Pi, Nil, ◌▸◌}
+use Rattle.ld_terms.specs.Put.{lift}
+use Rattle.ld_terms.specs.Derivable.{IsSort}
+use Rattle.ld_terms.specs.Item.{Item, tree, IsOne}
+use Rattle.ld_terms.specs.Bank.{StandsFor, IsTermAt, tree_at, listed}
+use Rattle.ld_terms.specs.declared.bank.TermId.{TermId}
+use Rattle.ld_terms.specs.Known.{Known, Judgement, judgement_at, line_entry}
+use Rattle.ld_terms.specs.Entry.{Env, IsFresh, Defined}
+use Rattle.ld_env.specs.declared.env.Entry.{Entry}
+use Rattle.ld_env.specs.Named.{Named, named, names_of}
+use Rattle.ld_env.specs.Entries.{body_of, env_of, AreLive, IsLiveEntry}
+use Rattle.ld_env.proofs.CallerLemmas.{is_fresh, length-env_of, live-push}
+use Rattle.ld_record.specs.declared.record.JudgeId.{JudgeId}
+use Rattle.ld_record.specs.declared.record.Judge.{Judge}
+use Rattle.ld_record.specs.Follows.{ByVar, ByWeak, ByForm, ByAbst}
+use Rattle.ld_record.specs.Kept.{FitsEntry}
+use Rattle.ld_record.specs.Growth.{Knows, KnowsContext, Adds, over_first}
+use Rattle.ld_record.proofs.CallerLemmas.{Says}
+use Rattle.ld_reduce.proofs.Going.{term_of}
+use Rattle.ld_reduce.specs.Samples.{sort, inner_sort, variable, outer_variable, product, identity, lines, IsOf}
+
+-- the numbers are those of a judgement over no entries
+pub says : (items : List Item) (known : Known) (judge : Judge) (s : Judgement) → judge.entries ≡ 0 → s.entries ≡ 0 → KnowsContext known judge.ctx s.context → StandsFor items judge.term s.term
+    → StandsFor items judge.of s.type → Says items known judge s
+says items known judge s zero none context term type = record { entries = zero ∙ sym none; within = omega (arith, none); context = context; term = term; type = type }
+
+module _ (known : Known) where
+  sorted : (j : JudgeId) (s : Judgement) → Knows known j s → IsSort s.type → IsSort (judgement_at known j.0).type
+  sorted j s h is = let P : Tree → Type 0 = λ t. IsSort t in subst P (sym (ap (λ (q : Judgement). q.type) h.is)) is
+
+  pub by_weak : (n m : JudgeId) (a b : Judgement) → Knows known n a → Knows known m b → a.entries ≡ 0 → b.entries ≡ 0 → b.context ≡ a.context → IsSort b.type
+      → ByWeak known (record { entries = 0; context = a.context ▸ b.term; term = lift a.term 1 0; type = lift a.type 1 0 }) n m
+  by_weak n m a b first second none none' same is = record {
+    first = record { live = first.live; entries = ap (λ (q : Judgement). q.entries) first.is ∙ none };
+    second = record { live = second.live; entries = ap (λ (q : Judgement). q.entries) second.is ∙ none' };
+    same = ap (λ (q : Judgement). q.context) second.is ∙ same ∙ sym (ap (λ (q : Judgement). q.context) first.is);
+    sort = sorted m b second is;
+    context = sym (ap₂ ◌▸◌ (ap (λ (q : Judgement). q.context) first.is) (ap (λ (q : Judgement). q.term) second.is));
+    term = sym (ap (λ (q : Judgement). lift q.term 1 0) first.is);
+    type = sym (ap (λ (q : Judgement). lift q.type 1 0) first.is);
+  }
+
+  pub by_var : (n : JudgeId) → Knows known n sort → ByVar known variable n
+  by_var n premise = record {
+    premise = record { live = premise.live; entries = ap (λ (q : Judgement). q.entries) premise.is };
+    sort = sorted n sort premise IsSort.box;
+    context = sym (ap (λ (q : Judgement). q.context ▸ q.term) premise.is);
+    term = refl;
+    type = sym (ap (λ (q : Judgement). lift q.term 1 0) premise.is);
+  }
+
+  pub by_form : (n m : JudgeId) → Knows known n sort → Knows known m inner_sort → ByForm known product n m
+  by_form n m first second = record {
+    first = record { live = first.live; entries = ap (λ (q : Judgement). q.entries) first.is };
+    second = record { live = second.live; entries = ap (λ (q : Judgement). q.entries) second.is };
+    outer = ap (λ (q : Judgement). q.context) first.is;
+    inner = ap (λ (q : Judgement). q.context) second.is ∙ ap (λ (t : Tree). Nil ▸ t) (sym (ap (λ (q : Judgement). q.term) first.is));
+    domain = sorted n sort first IsSort.box;
+    range = sorted m inner_sort second IsSort.box;
+    term = sym (ap₂ Pi (ap (λ (q : Judgement). q.term) first.is) (ap (λ (q : Judgement). q.term) second.is));
+    type = sym (ap (λ (q : Judgement). q.type) second.is);
+  }
+
+  pub by_abst : (n m : JudgeId) → Knows known n variable → Knows known m product → ByAbst known identity n m
+  by_abst n m body formed = record {
+    first = record { live = body.live; entries = ap (λ (q : Judgement). q.entries) body.is };
+    second = record { live = formed.live; entries = ap (λ (q : Judgement). q.entries) formed.is };
+    outer = ap (λ (q : Judgement). q.context) formed.is;
+    domain = Star;
+    inner = ap (λ (q : Judgement). q.context) body.is;
+    product = ap (λ (q : Judgement). q.term) formed.is ∙ sym (ap (λ (q : Judgement). Pi Star q.type) body.is);
+    sort = sorted m product formed IsSort.box;
+    term = sym (ap (λ (q : Judgement). Lam Star q.term) body.is);
+    type = sym (ap (λ (q : Judgement). Pi Star q.type) body.is);
+  }
+
+-- a judgement over all entries may be a line of a new name
+pub line_fits : (items : List Item) (env : List Named) (old known : Known) (name new : List ℕ) (over : JudgeId) (s : Judgement) (n : ℕ) → new ≡ name → 0 < length name → length name ≤ 255
+    → (Contains (names_of env) new → ⊥) → env_of items env ≡ old.env → Adds old known → n ≡ length env → Knows known over (over_first s n) → FitsEntry known name over false
+line_fits items env old known name new over s n same some short free is adds count h =
+    let all : env_of items env ≡ known.env = is ∙ sym adds.env in
+    record {
+      live = h.live;
+      may = record {
+        free = record { some = some; short = short; fresh = subst (IsFresh name) all (is_fresh items env name (λ c. free (subst (Contains (names_of env)) (sym same) c))) };
+        over = ap (λ (q : Judgement). q.entries) h.is ∙ count ∙ sym (length-env_of items env) ∙ ap length all;
+      };
+    }
+
+pub line_live : (items : List Item) (env later : List Named) (name : List ℕ) (entry : Entry) → AreLive items env → IsLiveEntry items entry → later ≡ env ++ named name entry ∷ [] → AreLive items later
+line_live items env later name entry live h e = subst (AreLive items) (sym e) (live-push items env (named name entry) live h)
+
+-- the entry is that of the judgement, where its parts stand for the judgement's
+is_of : (items : List Item) (known : Known) (entry : Entry) (body of : TermId) (j : JudgeId) (s : Judgement) → Knows known j s → s.entries ≡ 0 → All (IsTermAt items) entry.params
+    → listed items Nil entry.params ≡ s.context → entry.body ≡ Some body → entry.of ≡ of → StandsFor items body s.term → StandsFor items of s.type → IsOf items known entry j
+is_of items known entry body of j s knows none live params body_is of_is term type = record {
+  live = knows.live;
+  entries = ap (λ (q : Judgement). q.entries) knows.is ∙ none;
+  there = record {
+    params = live;
+    body = λ t e. (let same : body ≡ t = cc in subst (IsTermAt items) same (term_of items body s.term term));
+    type = subst (IsTermAt items) (sym of_is) (term_of items of s.type type);
+  };
+  params = params ∙ sym (ap (λ (q : Judgement). q.context) knows.is);
+  body = ap (body_of items) body_is ∙ ap (λ i. Defined (tree i)) term.item ∙ sym (ap (λ (q : Judgement). Defined q.term) knows.is);
+  type = ap (tree_at items) of_is ∙ ap tree type.item ∙ sym (ap (λ (q : Judgement). q.type) knows.is);
+}
+
+pub is_of_closed : (items : List Item) (known : Known) (entry : Entry) (body of : TermId) (j : JudgeId) (s : Judgement) → Knows known j s → s.entries ≡ 0 → s.context ≡ Nil
+    → entry.params ≡ [] → entry.body ≡ Some body → entry.of ≡ of → StandsFor items body s.term → StandsFor items of s.type → IsOf items known entry j
+is_of_closed items known entry body of j s knows none closed params body_is of_is term type =
+    is_of items known entry body of j s knows none (subst (λ ts. All (IsTermAt items) ts) (sym params) (All-nil (IsTermAt items)))
+    (ap (listed items Nil) params ∙ sym closed) body_is of_is term type
+
+pub is_of_binary : (items : List Item) (known : Known) (entry : Entry) (body of : TermId) (j : JudgeId) → Knows known j outer_variable → entry.params ≡ of ∷ of ∷ []
+    → entry.body ≡ Some body → entry.of ≡ of → StandsFor items body (Var 1) → StandsFor items of Star → IsOf items known entry j
+is_of_binary items known entry body of j knows params body_is of_is term type =
+    let there = term_of items of Star type in
+    let each : All (IsTermAt items) (of ∷ of ∷ []) = All-cons (IsTermAt items) of (of ∷ []) there (All-cons (IsTermAt items) of [] there (All-nil (IsTermAt items))) in
+    is_of items known entry body of j outer_variable knows refl (subst (λ ts. All (IsTermAt items) ts) (sym params) each)
+    (ap (listed items Nil) params ∙ ap (λ i. Nil ▸ tree i ▸ tree i) type.item) body_is of_is term type
+
+-- the entries, one after the other
+pub lines_are : (e0 e1 e2 e3 : Env) (n1 n2 n3 : List ℕ) (j1 j2 j3 : Judgement) → e0 ≡ [] → e1 ≡ e0 ++ line_entry n1 j1 ∷ [] → e2 ≡ e1 ++ line_entry n2 j2 ∷ [] → e3 ≡ e2 ++ line_entry n3 j3 ∷ []
+    → n1 ≡ 113 ∷ [] → n2 ≡ 102 ∷ [] → n3 ≡ 107 ∷ [] → j1 ≡ product → j2 ≡ identity → j3 ≡ outer_variable → e3 ≡ lines
+lines_are e0 e1 e2 e3 n1 n2 n3 j1 j2 j3 none first second third is1 is2 is3 of1 of2 of3 =
+    third
+    ∙ ap (λ e. e ++ line_entry n3 j3 ∷ []) (second ∙ ap (λ e. e ++ line_entry n2 j2 ∷ []) (first ∙ ap (λ e. e ++ line_entry n1 j1 ∷ []) none))
+    ∙ (λ i. line_entry (is1 i) (of1 i) ∷ line_entry (is2 i) (of2 i) ∷ line_entry (is3 i) (of3 i) ∷ [])
