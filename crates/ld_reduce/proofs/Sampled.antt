@@ -1,12 +1,12 @@
 -- The rules by which the judgements of the tests follow.
-use Rattle.std.proofs.Common.{◌≡◌, ◌<◌, ◌≤◌, ◌++◌, ◌∷◌, [], false, length, Contains, All, Option, Some, ℕ, List, refl, ap, sym, ◌∙◌, subst, arith}
+use Rattle.std.proofs.Common.{◌≡◌, ◌<◌, ◌≤◌, ◌++◌, ◌∷◌, [], false, length, Contains, All, Some, ℕ, List, refl, ap, sym, ◌∙◌, subst, arith}
 use Rattle.std.proofs.lemmas.List.Elements.{All-nil, All-cons}
 use mathlib.Core.Path.{ap₂}
-use Rattle.ld_terms.specs.Tree.{Tree, Trees, Star, Box, Var, Lam, Pi, Nil, ◌▸◌}
+use Rattle.ld_terms.specs.Tree.{Tree, Star, Var, Lam, Pi, Nil, ◌▸◌}
 use Rattle.ld_terms.specs.Put.{lift}
 use Rattle.ld_terms.specs.Derivable.{IsSort}
-use Rattle.ld_terms.specs.Item.{Item, tree, IsOne}
-use Rattle.ld_terms.specs.Bank.{StandsFor, IsTermAt, tree_at, listed}
+use Rattle.ld_terms.specs.Item.{Item, tree}
+use Rattle.ld_terms.specs.Bank.{StandsFor, IsTermAt, Extends, tree_at, listed}
 use Rattle.ld_terms.specs.declared.bank.TermId.{TermId}
 use Rattle.ld_terms.specs.Known.{Known, Judgement, judgement_at, line_entry}
 use Rattle.ld_terms.specs.Entry.{Env, IsFresh, Defined}
@@ -131,3 +131,7 @@ lines_are e0 e1 e2 e3 n1 n2 n3 j1 j2 j3 none first second third is1 is2 is3 of1 
     third
     ∙ ap (λ e. e ++ line_entry n3 j3 ∷ []) (second ∙ ap (λ e. e ++ line_entry n2 j2 ∷ []) (first ∙ ap (λ e. e ++ line_entry n1 j1 ∷ []) none))
     ∙ (λ i. line_entry (is1 i) (of1 i) ∷ line_entry (is2 i) (of2 i) ∷ line_entry (is3 i) (of3 i) ∷ [])
+
+-- what holds over the lines of a tree holds of its number, over an environment that is theirs
+pub over_lines : (P : Env → Tree → Type 0) (old new : List Item) (env : Env) (t : TermId) (u : Tree) → Extends old new → StandsFor old t u → env ≡ lines → P lines u → P env (tree_at new t)
+over_lines P old new env t u kept stands is h = subst (λ e. P e (tree_at new t)) (sym is) (subst (λ x. P lines x) (sym (ap tree (kept.kept t stands.live ∙ stands.item))) h)

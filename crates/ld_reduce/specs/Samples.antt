@@ -1,6 +1,6 @@
 -- Judgements and lines for the tests.
-use Rattle.std.specs.Prelude.{◌≡◌, ◌<◌, ◌≤◌, ℕ, List, [], ◌∷◌, length, Some}
-use Rattle.ld_terms.specs.Tree.{Tree, Star, Box, Var, Lam, Pi, Nil, ◌▸◌}
+use Rattle.std.specs.Prelude.{◌≡◌, ◌<◌, List, [], ◌∷◌, length}
+use Rattle.ld_terms.specs.Tree.{Star, Box, Var, Lam, Pi, Nil, ◌▸◌}
 use Rattle.ld_terms.specs.Entry as named
 use Rattle.ld_terms.specs.Item.{Item}
 use Rattle.ld_terms.specs.Bank.{tree_at, listed}

@@ -2,7 +2,7 @@
 //! parameters x and y of type `*`.
 ghost use Rattle.std.specs.Prelude.{◌≡◌, ◌<◌, ◌≤◌, ◌+◌, ◌^◌, ◌++◌, ◌∷◌, [], length, Some, IfOk, OnOk};
 ghost use Rattle.ld_terms.specs.Tree as tree;
-ghost use Rattle.ld_terms.specs.Bank.{StandsFor};
+ghost use Rattle.ld_terms.specs.Bank.{StandsFor, Extends};
 ghost use Rattle.ld_terms.specs.Known.{Judgement, judgement_at, line_entry};
 ghost use Rattle.ld_env.specs.Entries.{env_of, AreLive};
 ghost use Rattle.ld_record.specs.Kept.{known_of, IsSound};
@@ -18,12 +18,7 @@ use std::alloc::Global;
 use std::test::Fail;
 
 // `* : box`
-fn sort(
-    deriv: &mut Deriv,
-    bank: &Bank,
-    star: TermId,
-    over: TermId,
-) -> Result<JudgeId, NoMemory>
+fn sort(deriv: &mut Deriv, bank: &Bank, star: TermId, over: TermId) -> Result<JudgeId, NoMemory>
     requires none { deriv.old ≡ [] }
     requires star { StandsFor bank.now star tree.Star }
     requires over { StandsFor bank.now over tree.Box }
@@ -259,6 +254,7 @@ pub(crate) fn lines(
     ensures env { OnOk result (env_of bank.new env.new ≡ (known_of bank.new deriv.new).env) }
     ensures live { OnOk result (AreLive bank.new env.new) }
     ensures lines { OnOk result ((known_of bank.new deriv.new).env ≡ sample.lines) }
+    ensures kept { OnOk result (Extends bank.old bank.new) }
 {
     let star = bank.add(Node::Star)?;
     let over = bank.add(Node::Box_)?;

@@ -1,12 +1,19 @@
 //! Head forms of small terms, with answers worked out by hand.
-ghost use Rattle.std.specs.Prelude.{◌≡◌, [], IfOk};
+ghost use Rattle.std.specs.Prelude.{◌≡◌, [], IfOk, OnOk, is_some, true};
 ghost use Rattle.ld_terms.specs.Tree as tree;
+ghost use Rattle.ld_terms.specs.Tree.{◌▸◌};
 ghost use Rattle.ld_terms.specs.Bank.{tree_at, IsTermAt, StandsFor};
 ghost use Rattle.ld_terms.specs.Named.{IsNamed};
+ghost use Rattle.ld_env.specs.Entries.{env_of, AreLive};
+ghost use Rattle.ld_record.specs.Kept.{known_of, IsSound};
+ghost use Rattle.ld_reduce.specs.Heads.{delta_step};
 
-use crate::{Budget, Stop, beta_head};
+use crate::sample::lines;
+use crate::{Budget, Stop, beta_head, defined_head, expose, has_beta, unfold};
+use ld_env::Env;
 use ld_record::Deriv;
 use ld_terms::{Bank, Node, TermFault, TermId};
+use std::alloc::Global;
 use std::test::Fail;
 
 // `(fun x : *. fun y : *. x) 3 4 5`
@@ -107,5 +114,118 @@ fn leaves_a_head_form(rt: HostRuntime) -> Result<(), Fail> {
     let (to, equal) = beta_head(&mut bank, &mut deriv, term, &mut budget)?;
     assert_eq!(rt; to, term);
     assert_eq!(rt; (deriv.count(), equal.number()), (1, 0));
+    Ok(())
+}
+
+// `k 5 6`
+fn instance(bank: &mut Bank) -> Result<TermId, TermFault>
+    ensures { IfOk result (λ t. StandsFor bank.new t (tree.Const 2 (tree.Nil ▸ tree.Var 5 ▸ tree.Var 6))) }
+{
+    let none = bank.add(Node::Nil)?;
+    let first = bank.add(Node::Var(5))?;
+    let one = bank.add(Node::Cons(first, none))?;
+    let second = bank.add(Node::Var(6))?;
+    let both = bank.add(Node::Cons(second, one))?;
+    bank.add(Node::Const(2, both))
+}
+
+// `f q`
+fn application(bank: &mut Bank) -> Result<TermId, TermFault>
+    ensures { IfOk result (λ t. StandsFor bank.new t (tree.App (tree.Const 1 tree.Nil) (tree.Const 0 tree.Nil))) }
+{
+    let none = bank.add(Node::Nil)?;
+    let function = bank.add(Node::Const(1, none))?;
+    let argument = bank.add(Node::Const(0, none))?;
+    bank.add(Node::App(function, argument))
+}
+
+// `k 5 6` over the lines.
+fn sample_instance(
+    alloc: Global,
+    bank: &mut Bank,
+    env: &mut Env,
+    deriv: &mut Deriv,
+) -> Result<TermId, Fail>
+    requires none { env.old ≡ [] }
+    requires no_records { deriv.old ≡ [] }
+    ensures sound { OnOk result (IsSound bank.new deriv.new) }
+    ensures env { OnOk result (env_of bank.new env.new ≡ (known_of bank.new deriv.new).env) }
+    ensures live { OnOk result (AreLive bank.new env.new) }
+    ensures term { IfOk result (λ t. IsTermAt bank.new t) }
+    ensures named { IfOk result (λ t. IsNamed (known_of bank.new deriv.new).env (tree_at bank.new t)) }
+    ensures head { IfOk result (λ t. is_some (delta_step (known_of bank.new deriv.new).env (tree_at bank.new t)) ≡ true) }
+{
+    let term = instance(bank)?;
+    lines(alloc, bank, env, deriv)?;
+    Ok(term)
+}
+
+// `f q` over the lines.
+fn sample_application(
+    alloc: Global,
+    bank: &mut Bank,
+    env: &mut Env,
+    deriv: &mut Deriv,
+) -> Result<TermId, Fail>
+    requires none { env.old ≡ [] }
+    requires no_records { deriv.old ≡ [] }
+    ensures sound { OnOk result (IsSound bank.new deriv.new) }
+    ensures env { OnOk result (env_of bank.new env.new ≡ (known_of bank.new deriv.new).env) }
+    ensures live { OnOk result (AreLive bank.new env.new) }
+    ensures term { IfOk result (λ t. IsTermAt bank.new t) }
+    ensures named { IfOk result (λ t. IsNamed (known_of bank.new deriv.new).env (tree_at bank.new t)) }
+{
+    let term = application(bank)?;
+    lines(alloc, bank, env, deriv)?;
+    Ok(term)
+}
+
+#[test]
+fn puts_both_arguments_in(rt: HostRuntime) -> Result<(), Fail> {
+    let mut bank = Bank::new(rt.alloc());
+    let mut env = Env::new(rt.alloc());
+    let mut deriv = Deriv::new(rt.alloc());
+    let term = sample_instance(rt.alloc(), &mut bank, &mut env, &mut deriv)?;
+    let mut budget = Budget::new(1);
+    let (to, equal) = unfold(&mut bank, &env, &mut deriv, term, &mut budget)?;
+    assert_eq!(rt; (budget.left(), budget.spent()), (0, 1));
+    // The first parameter is what `k` stands for.
+    assert_eq!(rt; bank.node(to), Node::Var(5));
+    assert_eq!(rt; equal.number(), 0);
+    Ok(())
+}
+
+// Delta to `(fun x : *. x) q`, beta to `q`, delta to `all x : *. *`.
+#[test]
+fn exposes_a_product(rt: HostRuntime) -> Result<(), Fail> {
+    let mut bank = Bank::new(rt.alloc());
+    let mut env = Env::new(rt.alloc());
+    let mut deriv = Deriv::new(rt.alloc());
+    let term = sample_application(rt.alloc(), &mut bank, &mut env, &mut deriv)?;
+    assert!(rt; !has_beta(&bank, term));
+    assert_eq!(rt; defined_head(&bank, &env, term), Some(1));
+    let mut budget = Budget::new(3);
+    let (to, equal) = expose(&mut bank, &env, &mut deriv, term, &mut budget)?;
+    assert_eq!(rt; (budget.left(), budget.spent()), (0, 3));
+    let Node::Pi(domain, range) = bank.node(to) else {
+        return Err(Fail::from("no product"));
+    };
+    assert_eq!(rt; bank.node(domain), Node::Star);
+    assert_eq!(rt; bank.node(range), Node::Star);
+    // Delta, the argument with itself, both in the application; beta and delta, each joined to what is before it.
+    assert_eq!(rt; equal.number(), 6);
+    Ok(())
+}
+
+#[test]
+fn exposes_no_further_than_the_budget(rt: HostRuntime) -> Result<(), Fail> {
+    let mut bank = Bank::new(rt.alloc());
+    let mut env = Env::new(rt.alloc());
+    let mut deriv = Deriv::new(rt.alloc());
+    let term = sample_application(rt.alloc(), &mut bank, &mut env, &mut deriv)?;
+    let mut budget = Budget::new(2);
+    let result = expose(&mut bank, &env, &mut deriv, term, &mut budget);
+    assert!(rt; matches!(result, Err(Stop::Spent)));
+    assert_eq!(rt; (budget.left(), budget.spent()), (0, 2));
     Ok(())
 }

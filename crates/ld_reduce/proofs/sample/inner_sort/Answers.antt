@@ -1,6 +1,6 @@
 use Rattle.std.proofs.Common.{◌≡◌, List, refl, ap, sym, subst, IfOk}
 use mathlib.Core.Path.{ap₂}
-use Rattle.ld_terms.specs.Tree.{Tree, Trees, Star, Nil, ◌▸◌}
+use Rattle.ld_terms.specs.Tree.{Trees, Star, Nil, ◌▸◌}
 use Rattle.ld_terms.specs.Item.{Item, tree, IsOne}
 use Rattle.ld_terms.specs.Derivable.{IsSort}
 use Rattle.ld_terms.specs.Known.{Judgement, context_at}
@@ -37,7 +37,7 @@ emit-requires-clause-fits c =
     let here = knows_later (known_of c.args.bank.now c.args.deriv.now) known c.args.j sample.sort c.extend.ensures.adds c.requires.judged in
     node_fits c.args.bank.now known _ sample.inner_sort (Weak c.args.j c.args.j)
     (says _ _ _ sample.inner_sort refl refl (extended c.args.bank.now c.args.deriv.now c.extend.new.self c.empty-empty.result c.in_ok-ctx.ctx c.args.star c.empty-empty.ensures c.in_ok-ctx.ensures.number c.requires.star)
-        c.requires.star c.requires.over)
+    c.requires.star c.requires.over)
     (by_weak known c.args.j c.args.j sample.sort sample.sort here here refl refl refl IsSort.box)
 
 pub returns-clause-number : goal.returns-clause-number
@@ -45,6 +45,6 @@ returns-clause-number c =
     let P : Judgement → Type 0 = λ q. IfOk c.emit.result (λ k. Knows (known_of c.args.bank.now c.emit.new.self) k q) in
     subst P
     (said c.args.bank.now (known_of c.args.bank.now c.extend.new.self) _ sample.inner_sort
-        (says _ _ _ sample.inner_sort refl refl (extended c.args.bank.now c.args.deriv.now c.extend.new.self c.empty-empty.result c.in_ok-ctx.ctx c.args.star c.empty-empty.ensures c.in_ok-ctx.ensures.number c.requires.star)
-            c.requires.star c.requires.over))
+    (says _ _ _ sample.inner_sort refl refl (extended c.args.bank.now c.args.deriv.now c.extend.new.self c.empty-empty.result c.in_ok-ctx.ctx c.args.star c.empty-empty.ensures c.in_ok-ctx.ensures.number c.requires.star)
+    c.requires.star c.requires.over))
     c.emit.ensures.number

@@ -1,4 +1,4 @@
-use Rattle.std.proofs.Common.{◌≡◌, Result, Ok, Err}
+use Rattle.std.proofs.Common.{◌≡◌, Ok, Err}
 use Rattle.ld_terms.specs.Known.{judgement_at}
 use Rattle.ld_record.specs.Kept.{known_of}
 use Rattle.ld_env.specs.declared.env.EnvFault.{EnvFault}

@@ -1,8 +1,7 @@
-use Rattle.std.proofs.Common.{rules, ◌≡◌, ◌∙◌, refl}
+use Rattle.std.proofs.Common.{rules, ◌∙◌, refl}
 use Rattle.ld_terms.specs.Tree as tree
 use Rattle.ld_terms.specs.Bank.{StandsFor}
-use Rattle.ld_record.specs.Kept.{known_of}
-use Rattle.ld_record.specs.Growth.{Knows}
+use Rattle.ld_terms.proofs.Banks.{extends_trans}
 use Rattle.ld_record.proofs.Growing.{knows_later}
 use Rattle.ld_reduce.specs.Samples as sample
 use Rattle.ld_reduce.proofs.Sampled.{is_of_closed, is_of_binary, lines_are}
@@ -40,3 +39,8 @@ returns-clause-lines c =
     lines_are _ _ _ _ _ _ _ _ _ _
     (c.identity.ensures.adds.env ∙ c.product.ensures.adds.env ∙ c.outer_variable.ensures.adds.env ∙ c.variable.ensures.adds.env ∙ c.inner_sort.ensures.adds.env ∙ c.sort.ensures.env)
     c.in_ok-line.ensures.added c.in_ok-line-2.ensures.added c.in_ok-line-3.ensures.added c.in_ok-names.ensures.is c.in_ok-names-2.ensures.is c.in_ok-names-3.ensures.is formed.is same.is later.is
+
+pub returns-clause-kept : goal.returns-clause-kept
+returns-clause-kept c =
+    extends_trans _ _ _ c.add.ensures.kept (extends_trans _ _ _ c.add-2.ensures.kept (extends_trans _ _ _ c.add-3.ensures.kept
+    (extends_trans _ _ _ c.add-4.ensures.kept (extends_trans _ _ _ c.add-5.ensures.kept c.add-6.ensures.kept))))

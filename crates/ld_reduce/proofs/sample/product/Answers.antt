@@ -19,5 +19,5 @@ returns-clause-number c =
     let P : Judgement → Type 0 = λ q. IfOk c.emit.result (λ k. Knows (known_of c.args.bank.now c.emit.new.self) k q) in
     subst P
     (said c.args.bank.now (known_of c.args.bank.now c.args.deriv.now) _ sample.product
-        (says _ _ _ sample.product refl refl (empty_known c.args.bank.now c.args.deriv.now c.empty.result c.empty.ensures) c.requires.term c.requires.over))
+    (says _ _ _ sample.product refl refl (empty_known c.args.bank.now c.args.deriv.now c.empty.result c.empty.ensures) c.requires.term c.requires.over))
     c.emit.ensures.number

@@ -11,5 +11,5 @@ pub emit-requires-clause-fits : goal.emit-requires-clause-fits
 emit-requires-clause-fits c =
     node_fits c.args.bank.now (known_of c.args.bank.now c.args.deriv.now) _ sample.variable (step.Var c.args.j)
     (says _ _ _ sample.variable refl refl (record { live = c.judge.ensures.numbers.context; is = ap (λ (q : Judgement). q.context) (c.judge.ensures.is ∙ c.requires.inner.is) })
-        c.requires.x c.requires.star)
+    c.requires.x c.requires.star)
     (by_var (known_of c.args.bank.now c.args.deriv.now) c.args.j c.requires.judged)
