@@ -18,5 +18,6 @@ pub mod Closing
 pub mod Sessions
 pub mod Checks
 pub mod Runs
+pub mod Fetching
 pub mod Stops
 pub mod Reports

@@ -17,8 +17,6 @@ use Rattle.fb_parse.specs.declared.fault.ParseFault.TheVariants as parse
 use Rattle.ld_terms.specs.Item as bank
 use Rattle.book_top.specs.declared.report.Subject.{Subject}
 use Rattle.book_top.specs.declared.report.Subject.TheVariants as subject
-use Rattle.book_top.specs.declared.status.LimitFault.{LimitFault}
-use Rattle.book_top.specs.declared.status.LimitFault.TheVariants as limit
 use Rattle.book_top.specs.declared.status.Status.{Status}
 use Rattle.book_top.specs.declared.status.Status.TheVariants as status
 use Rattle.book_top.specs.declared.status.Summary.{Summary}
@@ -29,17 +27,13 @@ use Rattle.book_top.specs.declared.item.ItemStop.TheVariants as item
 use Rattle.book_top.specs.Verdict as verdict
 use Rattle.book_top.specs.Left.{Files, IsKept, IsLeft, kept, between, whole as whole_left}
 use Rattle.book_top.specs.Checked.{IsOutcome, IsChecked, AnswersFault, AnswersStop}
-use Rattle.book_top.specs.Top.{IsFetched, IsFetchedWithin, IsLonger, AnswersOutcome, AnswersItem, AnswersNoCommand, Leaves, untouched, left, Checks, done, too_long, no_book, item_refused, bad_record, desk, memory, Verifies, Outcome, IsSaid, IsAnswerOf, book_limit, derivation_limit}
+use Rattle.book_top.specs.Top.{IsFetched, AnswersOutcome, AnswersItem, AnswersNoCommand, Leaves, untouched, left, Checks, done, too_long, no_book, item_refused, bad_record, desk, memory, Verifies, Outcome, IsSaid, IsAnswerOf}
 use Rattle.book_top.specs.Words.{IsCheck, IsVerify, IsNoCommand, IsDecided, check, verify, nothing}
 use Rattle.book_top.specs.CommandLine.{AreAsked}
 use Rattle.book_top.specs.declared.words.Command.{Command}
 use Rattle.book_top.specs.declared.words.Command.TheVariants as command
 use Rattle.book_top.specs.declared.words.Check.{Check}
-use Rattle.book_top.specs.Said.{HasNoPlace, IsOn, SaysOf}
-use Rattle.book_top.specs.Fetched.{StopsFetch, AnswersBytes, refusal_of}
-use Rattle.dr_text.specs.declared.reader.RecordFault.{RecordFault}
-use Rattle.dr_text.specs.declared.reader.RecordFault.TheVariants as record_fault
-use Rattle.dr_check.specs.Faults.{ChecksFile}
+use Rattle.book_top.specs.Said.{HasNoPlace, IsAbout, SaysOf}
 use Rattle.book_top.proofs.CommandLines.{arranged_once, not_both}
 use Rattle.fb_base.specs.Desk.{Seen}
 
@@ -228,15 +222,15 @@ third words = []
 pub same_out : (words : List (List ℕ)) (book out b o : List ℕ) (budget m : ℕ) → IsCheck words book out budget → IsCheck words b o m → out ≡ o
 same_out words book out b o budget m h k = ap third (arranged_once h.arranges k.arranges).0
 
--- what the answer is on
-pub on_book : {words : List (List ℕ)} {book out : List ℕ} {budget : ℕ} → IsCheck words book out budget → IsOn words subject.Book
-on_book {book = book} {out = out} {budget = budget} asked = record { check = λ b o n h. refl; verify = λ deriv h. absurd (not_both book out deriv budget asked h) }
+-- what the answer is about
+pub about_book : {words : List (List ℕ)} {book out : List ℕ} {budget : ℕ} → IsCheck words book out budget → IsAbout words subject.Book
+about_book {book = book} {out = out} {budget = budget} asked = record { check = λ b o n h. refl; verify = λ deriv h. absurd (not_both book out deriv budget asked h) }
 
-pub on_derivation : {words : List (List ℕ)} {deriv : List ℕ} → IsVerify words deriv → IsOn words subject.Derivation
-on_derivation {deriv = deriv} asked = record { check = λ b o n h. absurd (not_both b o deriv n h asked); verify = λ d h. refl }
+pub about_derivation : {words : List (List ℕ)} {deriv : List ℕ} → IsVerify words deriv → IsAbout words subject.Derivation
+about_derivation {deriv = deriv} asked = record { check = λ b o n h. absurd (not_both b o deriv n h asked); verify = λ d h. refl }
 
-pub on_nothing : {words : List (List ℕ)} (about : Subject) → IsNoCommand words → IsOn words about
-on_nothing about unknown = record { check = λ b o n h. absurd (unknown.no_check b o n h); verify = λ d h. absurd (unknown.no_verify d h) }
+pub about_nothing : {words : List (List ℕ)} (about : Subject) → IsNoCommand words → IsAbout words about
+about_nothing about unknown = record { check = λ b o n h. absurd (unknown.no_check b o n h); verify = λ d h. absurd (unknown.no_verify d h) }
 
 -- the report is said of the book that was fetched
 pub says_of : (old mid new : Seen) (words : List (List ℕ)) (book out text bytes : List ℕ) (budget : ℕ) (given answer : Status) → IsCheck words book out budget → mid.said ≡ old.said → text ≡ bytes
@@ -248,7 +242,7 @@ says_of old mid new words book out text bytes budget given answer asked same is 
       about = subject.Book;
       text = text;
       given = given;
-      on = on_book asked;
+      is_about = about_book asked;
       said = subst P same said;
       is = λ placed told b o m check. ap old.files (same_book words book out b o budget m asked check) ∙ there told ∙ ap Some (sym is);
       due = λ told. Outcome.check book out budget asked (checks told);
@@ -257,12 +251,12 @@ says_of old mid new words book out text bytes budget given answer asked same is 
     }
 
 -- a report without a place
-pub says_placeless : (old mid new : Seen) (words : List (List ℕ)) (about : Subject) (text : List ℕ) (given answer : Status) → IsOn words about → mid.said ≡ old.said → HasNoPlace given
+pub says_placeless : (old mid new : Seen) (words : List (List ℕ)) (about : Subject) (text : List ℕ) (given answer : Status) → IsAbout words about → mid.said ≡ old.said → HasNoPlace given
     → (IsTrue old.tells_files → Outcome old.files new.files words given) → (IsNoCommand words → given ≡ status.Usage)
     → IsAnswerOf given answer → IsSaid about text given mid.said new.said answer → SaysOf old new words answer
-says_placeless old mid new words about text given answer on same h due unknown follows said =
+says_placeless old mid new words about text given answer is_about same h due unknown follows said =
     let P : List ℕ → Type 0 = λ b. IsSaid about text given b new.said answer in
-    record { about = about; text = text; given = given; on = on; said = subst P same said; is = λ placed told b o m check. absurd (placed h); due = due; no_command = unknown; follows = follows }
+    record { about = about; text = text; given = given; is_about = is_about; said = subst P same said; is = λ placed told b o m check. absurd (placed h); due = due; no_command = unknown; follows = follows }
 
 -- ---- what the words ask for
 
@@ -276,76 +270,6 @@ module _ {words : List (List ℕ)} (found : Option Command) (asked : AreAsked wo
   pub asks_nothing : found ≡ None → IsNoCommand words
   asks_nothing e = subst (AreAsked words) e asked
 
--- ---- a file that isn't fetched
-
-module _ (most : ℕ) (passed : LimitFault) (before : Seen) (name : List ℕ) where
-  -- by the cause, where files are told
-  fetch_stops : (P : Status → Type 0) (s : Status) → StopsFetch most passed before name s → IsTrue before.tells_files
-      → (IsLonger most before.files name → P (status.Limit passed)) → P status.Desk → P status.Memory → P s
-  fetch_stops P (status.Limit l) h told long failed spent = subst (λ k. P (status.Limit k)) (sym h.0) (long (h.1 told))
-  fetch_stops P status.Desk h told long failed spent = failed
-  fetch_stops P status.Memory h told long failed spent = spent
-  fetch_stops P (status.Done x) h told long failed spent = absurd h
-  fetch_stops P (status.Text x) h told long failed spent = absurd h
-  fetch_stops P status.Usage h told long failed spent = absurd h
-  fetch_stops P (status.Rule x) h told long failed spent = absurd h
-  fetch_stops P (status.Budget x) h told long failed spent = absurd h
-  fetch_stops P (status.BadRecord x) h told long failed spent = absurd h
-
-  pub unfetched_placeless : (s : Status) → HasNoPlace (status.Limit passed) → StopsFetch most passed before name s → HasNoPlace s
-  unfetched_placeless (status.Limit l) bytes h = subst (λ k. HasNoPlace (status.Limit k)) (sym h.0) bytes
-  unfetched_placeless status.Desk bytes h = tt
-  unfetched_placeless status.Memory bytes h = tt
-  unfetched_placeless (status.Done x) bytes h = tt
-  unfetched_placeless (status.Text x) bytes h = absurd h
-  unfetched_placeless status.Usage bytes h = tt
-  unfetched_placeless (status.Rule x) bytes h = absurd h
-  unfetched_placeless (status.Budget x) bytes h = absurd h
-  unfetched_placeless (status.BadRecord x) bytes h = tt
-
-  pub unfetched_known : (s : Status) → StopsFetch most passed before name s → s ≡ status.Usage → ⊥
-  unfetched_known s h e = subst (StopsFetch most passed before name) e h
-
-pub unfetched_checks : (before after : Seen) (book out : List ℕ) (budget : ℕ) (s : Status) → StopsFetch book_limit limit.BookBytes before book s → after.files ≡ before.files
-    → IsTrue before.tells_files → Checks budget before.files after.files book out s
-unfetched_checks before after book out budget s h same told =
-    let out_same = ap (λ (files : Files). files out) same in
-    fetch_stops book_limit limit.BookBytes before book (λ answer. Checks budget before.files after.files book out answer) s h told (λ long. Checks.too_long long same) (Checks.desk (untouched out_same)) (Checks.memory (untouched out_same))
-
-pub unfetched_verifies : (before after : Seen) (deriv : List ℕ) (s : Status) → StopsFetch derivation_limit limit.DerivBytes before deriv s → after.files ≡ before.files
-    → IsTrue before.tells_files → Verifies before.files after.files deriv s
-unfetched_verifies before after deriv s h same told =
-    fetch_stops derivation_limit limit.DerivBytes before deriv (λ answer. Verifies before.files after.files deriv answer) s h told (λ long. Verifies.too_long long same) (Verifies.desk same) (Verifies.memory same)
-
--- the answer for the bytes of a derivation file that was fetched
-pub bytes_verify : (before after : Files) (deriv bytes other : List ℕ) (s : Status) → AnswersBytes other s → other ≡ bytes → IsFetchedWithin derivation_limit before deriv bytes
-    → after ≡ before → Verifies before after deriv s
-bytes_verify before after deriv bytes other s h is fetched same =
-    let P : List ℕ → Type 0 = λ b. AnswersBytes b s in
-    by_answer s (subst P is h)
-  where
-    by_answer : (s : Status) → AnswersBytes bytes s → Verifies before after deriv s
-    by_answer (status.Done summary) h = Verifies.done bytes fetched h same
-    by_answer (status.BadRecord fault) h = Verifies.bad_record bytes fetched h same
-    by_answer status.Memory h = Verifies.memory same
-    by_answer status.Desk h = absurd h
-    by_answer (status.Limit x) h = absurd h
-    by_answer (status.Text x) h = absurd h
-    by_answer status.Usage h = absurd h
-    by_answer (status.Rule x) h = absurd h
-    by_answer (status.Budget x) h = absurd h
-
--- the answer for bytes that are refused
-pub refused_bytes : (bytes : List ℕ) (f : RecordFault) (s : Status) → ChecksFile bytes (Err f) → s ≡ refusal_of f → AnswersBytes bytes s
-refused_bytes bytes f s h is = subst (AnswersBytes bytes) (sym is) (by_fault f h)
-  where
-    by_fault : (f : RecordFault) → ChecksFile bytes (Err f) → AnswersBytes bytes (refusal_of f)
-    by_fault (record_fault.Malformed at) h = record { first = h.0; none = h.1 }
-    by_fault record_fault.Unfinished h = record { first = h.0; none = h.1 }
-    by_fault (record_fault.BadRef n) h = record { first = h.0; none = h.1 }
-    by_fault (record_fault.BadStep n) h = record { first = h.0; none = h.1 }
-    by_fault record_fault.Memory h = tt
-
 -- ---- words that memory didn't suffice to read
 
 pub unread_outcome : (files : Files) (words : List (List ℕ)) → IsDecided words → Outcome files files words status.Memory
@@ -355,11 +279,11 @@ unread_outcome files words (nothing unknown) = Outcome.no_command unknown tt ref
 
 pub unread_says : (s : Seen) (words : List (List ℕ)) → IsDecided words → SaysOf s s words status.Memory
 unread_says s words (check book out budget asked) =
-    says_placeless s s s words subject.Book [] status.Memory status.Memory (on_book asked) refl tt (λ told. unread_outcome s.files words (check book out budget asked))
+    says_placeless s s s words subject.Book [] status.Memory status.Memory (about_book asked) refl tt (λ told. unread_outcome s.files words (check book out budget asked))
     (λ unknown. absurd (unknown.no_check book out budget asked)) (inl refl) (inr refl)
 unread_says s words (verify deriv asked) =
-    says_placeless s s s words subject.Derivation [] status.Memory status.Memory (on_derivation asked) refl tt (λ told. unread_outcome s.files words (verify deriv asked))
+    says_placeless s s s words subject.Derivation [] status.Memory status.Memory (about_derivation asked) refl tt (λ told. unread_outcome s.files words (verify deriv asked))
     (λ unknown. absurd (unknown.no_verify deriv asked)) (inl refl) (inr refl)
 unread_says s words (nothing unknown) =
-    says_placeless s s s words subject.Book [] status.Usage status.Memory (on_nothing subject.Book unknown) refl tt (λ told. Outcome.no_command unknown tt refl) (λ h. refl)
+    says_placeless s s s words subject.Book [] status.Usage status.Memory (about_nothing subject.Book unknown) refl tt (λ told. Outcome.no_command unknown tt refl) (λ h. refl)
     (inr ((λ e. cc), inr refl)) (inr refl)

@@ -3,10 +3,11 @@ use Rattle.std.specs.Prelude.{◌≡◌, ℕ, ⊤, List, IsTrue}
 use Rattle.fb_base.specs.Desk.{Seen}
 use Rattle.dr_text.specs.declared.reader.RecordFault.{RecordFault}
 use Rattle.dr_text.specs.declared.reader.RecordFault.TheVariants as record_fault
+use Rattle.dr_check.specs.Checks.{IsRefused}
 use Rattle.book_top.specs.declared.status.LimitFault.{LimitFault}
 use Rattle.book_top.specs.declared.status.Status.{Status}
 use Rattle.book_top.specs.declared.status.Status.TheVariants as status
-use Rattle.book_top.specs.Top.{IsLonger, IsVerified, IsRefused}
+use Rattle.book_top.specs.Top.{IsLonger, IsVerified}
 
 -- the limit is passed, a call on the desk failed, or memory ran out
 abbrev pub StopsFetch : (most : ℕ) → LimitFault → Seen → (name : List ℕ) → Status → Type 0

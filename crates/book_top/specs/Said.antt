@@ -20,8 +20,8 @@ HasNoPlace (status.Limit (limit.Height at)) = ⊥
 HasNoPlace (status.Limit (limit.Flags at)) = ⊥
 HasNoPlace _ = Unit {0}
 
--- what an answer to the words is on
-pub record IsOn (words : List (List ℕ)) (about : Subject) : Type 0 where
+-- what an answer to the words is about
+pub record IsAbout (words : List (List ℕ)) (about : Subject) : Type 0 where
   pub check : (book out : List ℕ) (budget : ℕ) → IsCheck words book out budget → about ≡ subject.Book
   pub verify : (deriv : List ℕ) → IsVerify words deriv → about ≡ subject.Derivation
 
@@ -31,7 +31,7 @@ pub record SaysOf (old new : Seen) (words : List (List ℕ)) (answer : Status) :
   pub about : Subject
   pub text : List ℕ
   pub given : Status
-  pub on : IsOn words about
+  pub is_about : IsAbout words about
   pub said : IsSaid about text given old.said new.said answer
   pub is : (HasNoPlace given → ⊥) → IsTrue old.tells_files → (book out : List ℕ) (budget : ℕ) → IsCheck words book out budget → old.files book ≡ Some text
   pub due : IsTrue old.tells_files → Outcome old.files new.files words given

@@ -11,7 +11,7 @@ use Rattle.fb_parse.specs.Items.{SurfaceItem}
 use Rattle.fb_parse.specs.Texts.{IsBookText, BeginsBook, Refuses}
 use Rattle.dr_text.specs.Derives.{Derives}
 use Rattle.dr_text.specs.declared.reader.RecordFault.{RecordFault}
-use Rattle.dr_check.specs.Faults.{IsFirstFault}
+use Rattle.dr_check.specs.Checks.{IsRefused}
 use Rattle.ld_infer.specs.Reading as rule
 use Rattle.book_top.specs.declared.report.Subject.{Subject}
 use Rattle.book_top.specs.declared.status.Status.{Status}
@@ -180,11 +180,6 @@ pub record IsVerified (bytes : List ℕ) (summary : Summary) : Type 0 where
   pub entries_are : summary.entries ≡ length entries
   pub steps_are : summary.steps ≡ 0
 
--- The bytes have this first fault, and derive nothing.
-pub record IsRefused (bytes : List ℕ) (fault : RecordFault) : Type 0 where
-  pub first : IsFirstFault bytes fault
-  pub none : (entries : Env) (notes : List Note) → Derives bytes entries notes → ⊥
-
 -- What the verification of a derivation file answers. The files stay as they are.
 pub data Verifies (before after : Files) (deriv : List ℕ) : Status → Type 0 where
   done : {summary : Summary} (bytes : List ℕ) → IsFetchedWithin derivation_limit before deriv bytes → IsVerified bytes summary → after ≡ before →
@@ -208,8 +203,8 @@ pub data IsAbsent (files : Files) (words : List (List ℕ)) : Type 0 where
   book : (book out : List ℕ) (budget : ℕ) → IsCheck words book out budget → files book ≡ None → IsAbsent files words
   derivation : (deriv : List ℕ) → IsVerify words deriv → files deriv ≡ None → IsAbsent files words
 
--- What was said: the report of the answer on the book with this text, or on a derivation file. A desk that failed may have said a front of the report of the
--- answer that was given before, and without memory nothing is said.
+-- What was said: the report of the answer on the book with this text, or on a derivation file. A desk that failed may have said a front
+-- of the report of the answer that was given before, and without memory nothing is said.
 abbrev pub IsSaid : Subject → (text : List ℕ) → (given : Status) → (before after : List ℕ) → Status → Type 0
 IsSaid about text given before after status.Desk = (n : ℕ) × (after ≡ before ++ take n (report_of about text given))
 IsSaid about text given before after status.Memory = (after ≡ before ++ report_of about text status.Memory) ⊎ (after ≡ before)

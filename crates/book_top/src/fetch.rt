@@ -8,8 +8,8 @@ use crate::status::{LimitFault, Status};
 use fb_base::{Desk, DeskFault};
 use std::alloc::Global;
 
-/// The whole file of this name, where it has at most so many bytes. Else the answer, which is for a longer file that the
-/// limit was passed.
+/// The whole file of this name, where it has at most so many bytes. Else the answer: for a longer file, that this limit is
+/// passed.
 pub fn fetch<D: Desk>(
     alloc: Global,
     desk: &mut D,

@@ -15,7 +15,7 @@ use std::alloc::Global;
 const USAGE: &str =
     "usage: flagbook check BOOK OUT, verify DERIV, print BOOK NAME, term BOOK TEXT, gen N OUT, with --budget N\n";
 
-/// What an answer is on.
+/// What an answer is about.
 #[derive(Clone, Copy, Debug, PartialEq, Eq)]
 pub enum Subject {
     Book,

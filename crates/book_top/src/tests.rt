@@ -8,7 +8,7 @@ use std::process::Abort;
 use std::test::Fail;
 
 // The derivation of the one entry `A`, a primitive of the type `*`. The chunk of the entry ends after 19 bytes.
-const ONE_PRIMITIVE: [u8; 27] =
+pub const ONE_PRIMITIVE: [u8; 27] =
     *b"LDDERIV1\x01\x02\x30\x00\x00\x00\x01\x41\x01A\x00\x38\x01\x00\x00\x01\x00\x60\x01";
 
 // A desk whose file `book` holds the book and whose file `out` holds `old`. In each failing call so many bytes pass.
@@ -17,7 +17,7 @@ pub fn desk_with(alloc: Global, book: &[u8], fails: &[(u64, usize)]) -> Result<M
 }
 
 // A desk with these files.
-fn desk_of(
+pub fn desk_of(
     alloc: Global,
     named: [(&str, &[u8]); 2],
     fails: &[(u64, usize)],

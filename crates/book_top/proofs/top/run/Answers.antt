@@ -6,7 +6,8 @@ use Rattle.book_top.specs.declared.status.Status.TheVariants as status
 use Rattle.book_top.specs.Left.{Files}
 use Rattle.book_top.specs.Top.{book_limit, IsFetched, Checks, Outcome, IsAbsent}
 use Rattle.book_top.proofs.CommandLines.{not_both}
-use Rattle.book_top.proofs.Runs.{said_checks, said_verifies, no_command_answers, same_out, says_of, says_placeless, on_book, on_derivation, on_nothing, asks_check, asks_verify, asks_nothing, unfetched_checks, unfetched_placeless, unread_outcome, unread_says}
+use Rattle.book_top.proofs.Fetching.{unfetched_checks, unfetched_placeless}
+use Rattle.book_top.proofs.Runs.{said_checks, said_verifies, no_command_answers, same_out, says_of, says_placeless, about_book, about_derivation, about_nothing, asks_check, asks_verify, asks_nothing, unread_outcome, unread_says}
 use Rattle.book_top.proofs.top.run.Goals as goal
 
 pub returns-in-Ok-clause-outcome : goal.returns-in-Ok-clause-outcome
@@ -47,7 +48,7 @@ pub returns-in-Err-fetch-clause-said : goal.returns-in-Err-fetch-clause-said
 returns-in-Err-fetch-clause-said g c = λ tells.
     let T : Bool → Type 0 = λ b. IsTrue b in
     says_placeless (g.D.Desk.seen c.args.desk.now) (g.D.Desk.seen c.fetch.new.desk) (g.D.Desk.seen c.say-in-Err-fetch.new.desk) _ subject.Book _ c.in-Err-fetch.status c.say-in-Err-fetch.result
-    (on_book (asks_check _ c.in-Ok-Some-Check.ensures.asked _ c.in-Ok-Some-Check.asked c.in-Ok-Some-Check.field-0-is c.in-Ok-Some-Check.field-0-0-is))
+    (about_book (asks_check _ c.in-Ok-Some-Check.ensures.asked _ c.in-Ok-Some-Check.asked c.in-Ok-Some-Check.field-0-is c.in-Ok-Some-Check.field-0-0-is))
     (ap (λ (s : Seen). s.said) c.fetch.ensures.same) (unfetched_placeless book_limit limit.BookBytes (g.D.Desk.seen c.args.desk.now) c.in-Ok-Some-Check.asked.book.now c.in-Err-fetch.status tt c.in-Err-fetch.ensures.stopped)
     (λ told. Outcome.check _ _ _ (asks_check _ c.in-Ok-Some-Check.ensures.asked _ c.in-Ok-Some-Check.asked c.in-Ok-Some-Check.field-0-is c.in-Ok-Some-Check.field-0-0-is) (said_checks _ _ _ _ _ _ _ _ (unfetched_checks (g.D.Desk.seen c.args.desk.now) (g.D.Desk.seen c.fetch.new.desk) c.in-Ok-Some-Check.asked.book.now c.in-Ok-Some-Check.asked.out.now c.in-Ok-Some-Check.asked.budget c.in-Err-fetch.status c.in-Err-fetch.ensures.stopped (ap (λ (s : Seen). s.files) c.fetch.ensures.same) told)
     (ap (λ (s : Seen). s.files) c.say-in-Err-fetch.ensures.only) (inl refl)))
@@ -61,7 +62,7 @@ returns-in-Ok-None-clause-outcome g c = λ told.
 pub returns-in-Ok-None-clause-said : goal.returns-in-Ok-None-clause-said
 returns-in-Ok-None-clause-said g c = λ tells.
     says_placeless (g.D.Desk.seen c.args.desk.now) (g.D.Desk.seen c.args.desk.now) (g.D.Desk.seen c.say-in-Ok-None.new.desk) _ subject.Book _ status.Usage c.say-in-Ok-None.result
-    (on_nothing subject.Book (asks_nothing _ c.in-Ok-None.ensures.asked c.in-Ok-None.field-0-is))
+    (about_nothing subject.Book (asks_nothing _ c.in-Ok-None.ensures.asked c.in-Ok-None.field-0-is))
     refl tt (λ told. Outcome.no_command (asks_nothing _ c.in-Ok-None.ensures.asked c.in-Ok-None.field-0-is) tt (ap (λ (s : Seen). s.files) c.say-in-Ok-None.ensures.only)) (λ unknown. refl) c.say-in-Ok-None.ensures.same (c.say-in-Ok-None.ensures.said tells)
 
 pub returns-in-Ok-clause-others : goal.returns-in-Ok-clause-others
@@ -96,7 +97,7 @@ pub returns-in-Ok-Some-Verify-clause-said : goal.returns-in-Ok-Some-Verify-claus
 returns-in-Ok-Some-Verify-clause-said g c = λ tells.
     let T : Bool → Type 0 = λ b. IsTrue b in
     says_placeless (g.D.Desk.seen c.args.desk.now) (g.D.Desk.seen c.verify-status.new.desk) (g.D.Desk.seen c.say-in-Ok-Some-Verify.new.desk) _ subject.Derivation _ c.verify-status.result c.say-in-Ok-Some-Verify.result
-    (on_derivation (asks_verify _ c.in-Ok-Some-Verify.ensures.asked _ c.in-Ok-Some-Verify.deriv c.in-Ok-Some-Verify.field-0-is c.in-Ok-Some-Verify.field-0-0-is))
+    (about_derivation (asks_verify _ c.in-Ok-Some-Verify.ensures.asked _ c.in-Ok-Some-Verify.deriv c.in-Ok-Some-Verify.field-0-is c.in-Ok-Some-Verify.field-0-0-is))
     (ap (λ (s : Seen). s.said) c.verify-status.ensures.same) c.verify-status.ensures.placeless
     (λ told. Outcome.verify _ (asks_verify _ c.in-Ok-Some-Verify.ensures.asked _ c.in-Ok-Some-Verify.deriv c.in-Ok-Some-Verify.field-0-is c.in-Ok-Some-Verify.field-0-0-is)
     (said_verifies _ _ _ _ _ _ (c.verify-status.ensures.verifies told) (ap (λ (s : Seen). s.files) c.say-in-Ok-Some-Verify.ensures.only) (inl refl)))

@@ -1,4 +1,4 @@
-use Rattle.book_top.proofs.Runs.{refused_bytes}
+use Rattle.book_top.proofs.Fetching.{refused_bytes}
 use Rattle.book_top.proofs.verify.check_bytes.Goals as goal
 
 pub returns-in-Err : goal.returns-in-Err

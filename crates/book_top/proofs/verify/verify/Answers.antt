@@ -1,6 +1,6 @@
 use Rattle.std.proofs.Common.{ap}
 use Rattle.fb_base.specs.Desk.{Seen}
-use Rattle.book_top.proofs.Runs.{bytes_verify, unfetched_verifies}
+use Rattle.book_top.proofs.Fetching.{bytes_verify, unfetched_verifies}
 use Rattle.book_top.proofs.verify.verify.Goals as goal
 
 pub returns-in-Ok-clause-verifies : goal.returns-in-Ok-clause-verifies
