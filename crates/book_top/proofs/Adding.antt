@@ -8,11 +8,11 @@ use Rattle.ld_terms.specs.Item.{Item, One, IsSmall}
 use Rattle.ld_terms.specs.Entry.{Env, Entry}
 use Rattle.ld_terms.specs.Known.{FlagNote, EntryNote, primitive_entry, no_judgement}
 use Rattle.ld_record.specs.Follows.{entry_at}
-use Rattle.ld_infer.specs.Task.{Task, Answer, Gives, Answers}
+use Rattle.ld_reduce.specs.Task.{Task, Answer, Gives, Answers}
 use Rattle.ld_infer.specs.Account.{Account, account, Comes}
 use Rattle.ld_infer.specs.Reading.{Refusal}
 use Rattle.ld_infer.specs.Standing.{Standing, known, env, Continues, AddsEntry, AddsFlag}
-use Rattle.ld_infer.specs.declared.job.Stop.TheVariants as check
+use Rattle.ld_reduce.specs.declared.stop.Stop.TheVariants as check
 use Rattle.ld_defrules.specs.declared.ItemFault.{ItemFault}
 use Rattle.ld_defrules.specs.declared.ItemFault.TheVariants as fault
 use Rattle.ld_defrules.specs.Judged.{Judges, flag_judged}

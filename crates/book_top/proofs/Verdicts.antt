@@ -1,7 +1,7 @@
 -- The verdict on an item is the only one.
 use Rattle.std.proofs.Common.{◌≡◌, ◌<◌, ℕ, List, [], ◌∷◌, ◌++◌, Result, Ok, Err, refl, sym, ap, subst, ◌∙◌, arith}
 use Rattle.ld_terms.specs.Item.{Item}
-use Rattle.ld_infer.specs.Task.{Answer, Gives, Fails, High, Nested, NotBuilt, Pairs}
+use Rattle.ld_reduce.specs.Task.{Answer, Gives, Fails, High, Nested, NotBuilt, Pairs}
 use Rattle.ld_infer.specs.Reading.{Refusal}
 use Rattle.ld_infer.specs.Infers.{refusal_of}
 use Rattle.ld_infer.specs.Standing.{Standing, known}

@@ -4,12 +4,12 @@ use Rattle.std.specs.Str.{bytes_eq}
 use Rattle.ld_terms.specs.Item.{Item}
 use Rattle.ld_terms.specs.declared.bank.TermFault.{TermFault}
 use Rattle.ld_terms.specs.declared.bank.TermFault.TheVariants as term
-use Rattle.ld_infer.specs.Task.{Task, Pairs, Answer, Gives, Fails, High, Nested, NotBuilt, Answers}
+use Rattle.ld_reduce.specs.Task.{Task, Pairs, Answer, Gives, Fails, High, Nested, NotBuilt, Answers}
 use Rattle.ld_infer.specs.Reading.{Refusal}
 use Rattle.ld_infer.specs.Infers.{refusal_of}
 use Rattle.ld_infer.specs.Standing.{Standing, known}
-use Rattle.ld_infer.specs.declared.job.Stop.{Stop}
-use Rattle.ld_infer.specs.declared.job.Stop.TheVariants as check
+use Rattle.ld_reduce.specs.declared.stop.Stop.{Stop}
+use Rattle.ld_reduce.specs.declared.stop.Stop.TheVariants as check
 use Rattle.ld_defrules.specs.declared.ItemFault.{ItemFault}
 use Rattle.ld_defrules.specs.declared.ItemFault.TheVariants as fault
 use Rattle.fb_base.specs.declared.places.Span.{Span}

@@ -2,7 +2,7 @@
 use Rattle.std.specs.Prelude.{◌≡◌, ◌<◌, ◌≤◌, ℕ, [], length, nat_lt, if◌then◌else◌, position, Option, Some, None, Result, Ok, Err}
 use Rattle.std.specs.Str.{bytes_eq}
 use Rattle.ld_terms.specs.Item.{One, IsSmall}
-use Rattle.ld_infer.specs.Task.{Task, Answer, Gives, Fails, High, Nested, NotBuilt, Pairs}
+use Rattle.ld_reduce.specs.Task.{Task, Answer, Gives, Fails, High, Nested, NotBuilt, Pairs}
 use Rattle.ld_infer.specs.Reading.{Refusal}
 use Rattle.ld_defrules.specs.Judged.{flag_judged, primitive_judged, line_judged}
 use Rattle.fb_base.specs.declared.places.Span.{Span}

@@ -5,7 +5,7 @@ use Rattle.ld_terms.specs.Item.{Item}
 use Rattle.ld_infer.specs.declared.failure.PathStep.{PathStep}
 use Rattle.ld_infer.specs.declared.failure.InferFault.{InferFault}
 use Rattle.ld_infer.specs.declared.failure.InferFault.TheVariants as infer
-use Rattle.ld_infer.specs.Task.{Task, Gives, ◌>>=◌}
+use Rattle.ld_reduce.specs.Task.{Task, Gives, ◌>>=◌}
 use Rattle.ld_infer.specs.Account.{Account, Comes}
 use Rattle.ld_infer.specs.Reading.{Refusal, within}
 use Rattle.ld_infer.specs.Infers.{Stops, IsWithin}

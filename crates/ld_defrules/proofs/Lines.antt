@@ -10,11 +10,11 @@ use Rattle.ld_terms.specs.Bank.{tree_at, item_at, IsTermAt}
 use Rattle.ld_terms.specs.declared.bank.TermId.{TermId}
 use Rattle.ld_infer.specs.declared.failure.RuleName.TheVariants.{Def}
 use Rattle.ld_infer.specs.Infers.{StopsBy, refusal_of}
-use Rattle.ld_infer.specs.declared.job.Stop.{Stop}
-use Rattle.ld_infer.specs.Task.{Task, Answer, Gives, Fails, NotBuilt, gives, fails, not_built, ◌>>◌}
+use Rattle.ld_reduce.specs.declared.stop.Stop.{Stop}
+use Rattle.ld_reduce.specs.Task.{Task, Answer, Gives, Fails, NotBuilt, gives, fails, not_built, ◌>>◌}
 use Rattle.ld_infer.specs.Account.{Account, Comes}
 use Rattle.ld_infer.specs.Reading.{Refusal, found, compared}
-use Rattle.ld_infer.proofs.Tasks.{gives_answers, fails_answers, not_built_answers}
+use Rattle.ld_reduce.proofs.Tasks.{gives_answers, fails_answers, not_built_answers}
 use Rattle.ld_infer.proofs.Accounts.{comes_at_once, comes_then, comes_faulted}
 use Rattle.ld_defrules.specs.declared.ItemFault.{ItemFault}
 use Rattle.ld_defrules.specs.declared.ItemFault.TheVariants as fault

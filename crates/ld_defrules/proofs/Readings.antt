@@ -10,7 +10,7 @@ use Rattle.ld_terms.specs.declared.bank.TermId.{TermId}
 use Rattle.ld_record.specs.Growth.{Knows}
 use Rattle.ld_infer.specs.declared.failure.RuleName.TheVariants.{Def}
 use Rattle.ld_infer.specs.declared.inference.Typed.{Typed}
-use Rattle.ld_infer.specs.Task.{Gives, NotBuilt}
+use Rattle.ld_reduce.specs.Task.{Gives, NotBuilt}
 use Rattle.ld_infer.specs.Account.{Account, Comes}
 use Rattle.ld_infer.specs.Reading.{found}
 use Rattle.ld_infer.specs.Standing.{Standing, known, env, here, Continues}

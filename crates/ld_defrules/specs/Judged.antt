@@ -13,13 +13,13 @@ use Rattle.ld_infer.specs.declared.failure.RuleName.TheVariants.{Weak, Def, DefP
 use Rattle.ld_infer.specs.declared.failure.PathStep.TheVariants.{Of, Body}
 use Rattle.ld_infer.specs.declared.failure.InferFault.{InferFault}
 use Rattle.ld_infer.specs.declared.failure.InferFault.TheVariants as infer
-use Rattle.ld_infer.specs.Task.{Task, Gives, Fails, NotBuilt, gives, fails, ◌>>=◌, ◌>>◌, faults_by}
+use Rattle.ld_reduce.specs.Task.{Task, Gives, Fails, NotBuilt, gives, fails, ◌>>=◌, ◌>>◌, faults_by}
 use Rattle.ld_infer.specs.Account.{Account, Comes}
 use Rattle.ld_infer.specs.Reading.{Refusal, refusal, inside, within, Apart, NotSame, Found, compared, Types, SortOf}
 use Rattle.ld_infer.specs.Standing.{Standing, known, here, KnowsSort}
 use Rattle.ld_infer.specs.Infers.{StopsBy, IsTyped, refusal_of}
 use Rattle.ld_infer.specs.declared.inference.Typed.{Typed}
-use Rattle.ld_infer.specs.declared.job.Stop.TheVariants as Stop
+use Rattle.ld_reduce.specs.declared.stop.Stop.TheVariants as Stop
 use Rattle.ld_defrules.specs.declared.ItemFault.{ItemFault}
 use Rattle.ld_defrules.specs.declared.ItemFault.TheVariants as fault
 

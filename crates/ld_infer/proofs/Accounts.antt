@@ -1,8 +1,8 @@
 -- What comes of a task, from what came of its parts.
 use Rattle.std.proofs.Common.{◌≡◌, ◌+◌, ◌<◌, ℕ, subst, arith}
-use Rattle.ld_infer.specs.Task.{Pairs, Answer, Gives, Task, Ends, ◌>>=◌, goes_on, ends, with_fault, faults_by, Answers}
+use Rattle.ld_reduce.specs.Task.{Pairs, Answer, Gives, Task, Ends, ◌>>=◌, goes_on, ends, with_fault, faults_by, Answers}
 use Rattle.ld_infer.specs.Account.{Account, Comes, RunsOut}
-use Rattle.ld_infer.proofs.Tasks.{bind_answers, ends_answers, faults_answers}
+use Rattle.ld_reduce.proofs.Tasks.{bind_answers, ends_answers, faults_answers}
 
 -- no step is made, and nothing becomes known
 pub comes_at_once : {E X : Type 0} (p : Task E X) (r : Answer E X) (old : Account) → Answers p old.known r old.known 0 → Comes p r old old

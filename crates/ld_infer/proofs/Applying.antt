@@ -10,9 +10,10 @@ use Rattle.ld_infer.specs.declared.failure.InferFault.{InferFault}
 use Rattle.ld_infer.specs.declared.failure.InferFault.TheVariants as fault
 use Rattle.ld_infer.specs.declared.failure.RuleName.TheVariants.{Appl}
 use Rattle.ld_infer.specs.declared.failure.PathStep.TheVariants.{Arg}
-use Rattle.ld_infer.specs.Task.{Task, Gives}
+use Rattle.ld_reduce.specs.Task.{Task, Gives}
 use Rattle.ld_infer.specs.Account.{Account, Comes}
-use Rattle.ld_infer.specs.Infers.{Stops, stop_of}
+use Rattle.ld_reduce.specs.Cost.{stop_of}
+use Rattle.ld_infer.specs.Infers.{Stops}
 use Rattle.ld_infer.proofs.Accounts.{comes_then}
 use Rattle.ld_infer.proofs.Stopping.{stops_first, stops_then}
 use Rattle.ld_infer.proofs.Formed.{type_formed, formed_stops}

@@ -21,11 +21,12 @@ use Rattle.ld_infer.specs.declared.failure.PathStep.TheVariants.{Dom, Ran}
 use Rattle.ld_infer.specs.declared.failure.InferFault.{InferFault}
 use Rattle.ld_infer.specs.declared.failure.InferFault.TheVariants as fault
 use Rattle.ld_infer.specs.declared.inference.BodyTyped.{BodyTyped}
-use Rattle.ld_infer.specs.Task.{Task, Gives}
+use Rattle.ld_reduce.specs.Task.{Task, Gives}
 use Rattle.ld_infer.specs.Account.{Account, Comes}
 use Rattle.ld_infer.specs.Reading.{Refusal, Found, found, within, SortOf, part_reading, product_reading, abstraction_reading, body_reading}
 use Rattle.ld_infer.specs.Standing.{Standing, known, env, here, Continues, Enters, KnowsSort, without_last}
-use Rattle.ld_infer.specs.Infers.{Stops, IsWithin, IsTyped, IsSorted, IsBodyTyped, stop_of}
+use Rattle.ld_reduce.specs.Cost.{stop_of}
+use Rattle.ld_infer.specs.Infers.{Stops, IsWithin, IsTyped, IsSorted, IsBodyTyped}
 use Rattle.ld_infer.proofs.Going.{continues_trans, continues_around, here_stays, term_stays, tree_stays, knows_stays, sort_stays}
 use Rattle.ld_infer.proofs.Staying.{known_here, at_same}
 use Rattle.ld_infer.proofs.Binding.{product_stops_range, product_given, abstraction_stops_body, abstraction_stops_formed, abstraction_given}

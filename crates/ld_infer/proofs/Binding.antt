@@ -10,9 +10,10 @@ use Rattle.ld_infer.specs.declared.failure.RuleName.TheVariants.{Form, Abst}
 use Rattle.ld_infer.specs.declared.failure.PathStep.TheVariants.{Dom, Ran, Body}
 use Rattle.ld_infer.specs.declared.failure.InferFault.{InferFault}
 use Rattle.ld_infer.specs.declared.failure.InferFault.TheVariants as fault
-use Rattle.ld_infer.specs.Task.{Task, Gives, Fails, Ends}
+use Rattle.ld_reduce.specs.Task.{Task, Gives, Fails, Ends}
 use Rattle.ld_infer.specs.Account.{Account, Comes}
-use Rattle.ld_infer.specs.Infers.{Stops, IsWithin, IsRefusedBy, stop_of}
+use Rattle.ld_reduce.specs.Cost.{stop_of}
+use Rattle.ld_infer.specs.Infers.{Stops, IsWithin, IsRefusedBy}
 use Rattle.ld_infer.proofs.Accounts.{comes_then, comes_ended}
 use Rattle.ld_infer.proofs.Stopping.{stops_first, stops_then, stops_within, gives_within, refused_by}
 use Rattle.ld_infer.proofs.Sorts.{gives_now, fails_now}

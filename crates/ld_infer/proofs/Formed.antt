@@ -6,11 +6,12 @@ use Rattle.ld_terms.specs.declared.bank.TermFault.{TermFault}
 use Rattle.ld_terms.specs.declared.bank.TermFault.TheVariants as term
 use Rattle.ld_infer.specs.declared.failure.InferFault.{InferFault}
 use Rattle.ld_infer.specs.declared.failure.InferFault.TheVariants as fault
-use Rattle.ld_infer.specs.Task.{Task, Gives, High, formed, ◌>>=◌, gives, Ends}
+use Rattle.ld_reduce.specs.Task.{Task, Gives, High, formed, ◌>>=◌, gives, Ends}
 use Rattle.ld_infer.specs.Account.{Account, Comes}
 use Rattle.ld_infer.specs.Reading.{Refusal, Found, found}
-use Rattle.ld_infer.specs.Infers.{Stops, stop_of}
-use Rattle.ld_infer.proofs.Tasks.{formed_answers, formed_high}
+use Rattle.ld_reduce.specs.Cost.{stop_of}
+use Rattle.ld_infer.specs.Infers.{Stops}
+use Rattle.ld_reduce.proofs.Tasks.{formed_answers, formed_high}
 use Rattle.ld_infer.proofs.Accounts.{comes_at_once, comes_then, comes_ended}
 use Rattle.ld_infer.proofs.Sorts.{gives_now}
 

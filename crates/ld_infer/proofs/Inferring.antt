@@ -22,11 +22,12 @@ use Rattle.ld_infer.specs.declared.failure.InferFault.{InferFault}
 use Rattle.ld_infer.specs.declared.failure.InferFault.TheVariants as fault
 use Rattle.ld_infer.specs.declared.inference.Typed.{Typed}
 use Rattle.ld_infer.specs.declared.inference.FunctionTyped.{FunctionTyped}
-use Rattle.ld_infer.specs.Task.{Task, Gives}
+use Rattle.ld_reduce.specs.Task.{Task, Gives}
 use Rattle.ld_infer.specs.Account.{Account, Comes}
 use Rattle.ld_infer.specs.Reading.{Asked, Refusal, found, Types, part_reading, again_unless, body_reading, function_reading, argument_reading, application_reading}
 use Rattle.ld_infer.specs.Standing.{Standing, known, env, here, Continues, KnowsSort}
-use Rattle.ld_infer.specs.Infers.{Stops, IsTyped, IsTypedAgain, IsBodyTyped, IsFunctionTyped, IsSuited, stop_of}
+use Rattle.ld_reduce.specs.Cost.{stop_of}
+use Rattle.ld_infer.specs.Infers.{Stops, IsTyped, IsTypedAgain, IsBodyTyped, IsFunctionTyped, IsSuited}
 use Rattle.ld_infer.proofs.Going.{continues_trans, here_stays, term_stays, tree_stays, knows_stays}
 use Rattle.ld_infer.proofs.Staying.{known_here, at_same}
 use Rattle.ld_infer.proofs.Sorts.{gives_now}

@@ -29,10 +29,11 @@ use Rattle.ld_infer.specs.declared.failure.RuleName.{RuleName}
 use Rattle.ld_infer.specs.declared.failure.InferFault.{InferFault}
 use Rattle.ld_infer.specs.declared.failure.InferFault.TheVariants as fault
 use Rattle.ld_infer.specs.Account.{Account, Comes}
-use Rattle.ld_infer.specs.Task.{Task, Gives}
+use Rattle.ld_reduce.specs.Task.{Task, Gives}
 use Rattle.ld_infer.specs.Reading.{Refusal, Found, found, part_reading, arguments, instance_rule, instance_reading}
 use Rattle.ld_infer.specs.Standing.{Standing, known, env, here, without, Continues, KnowsSort}
-use Rattle.ld_infer.specs.Infers.{Stops, IsTyped, AreJudged, AreReadable, IsInstanceStep, stop_of}
+use Rattle.ld_reduce.specs.Cost.{stop_of}
+use Rattle.ld_infer.specs.Infers.{Stops, IsTyped, AreJudged, AreReadable, IsInstanceStep}
 use Rattle.ld_infer.proofs.Going.{continues_trans, here_stays, term_stays, tree_stays}
 use Rattle.ld_infer.proofs.Staying.{known_here, at_same}
 use Rattle.ld_infer.proofs.Contexts.{count-listed}

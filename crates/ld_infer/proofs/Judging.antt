@@ -19,13 +19,14 @@ use Rattle.ld_infer.specs.declared.failure.RuleName.{RuleName}
 use Rattle.ld_infer.specs.declared.failure.PathStep.TheVariants.{Nth}
 use Rattle.ld_infer.specs.declared.failure.InferFault.{InferFault}
 use Rattle.ld_infer.specs.declared.failure.InferFault.TheVariants as fault
-use Rattle.ld_infer.specs.Task.{Task, Gives, High, Ends, formed}
+use Rattle.ld_reduce.specs.Task.{Task, Gives, High, Ends, formed}
 use Rattle.ld_infer.specs.Account.{Account, Comes}
 use Rattle.ld_infer.specs.Reading.{Asked, Refusal, Found, part_reading, argument_reading, next_argument, arguments}
 use Rattle.ld_infer.specs.Standing.{Standing, known, env, here, without, Continues}
-use Rattle.ld_infer.specs.Infers.{Stops, Suits, IsSuited, AreJudged, AreReadable, ArePrefixes, stop_of}
+use Rattle.ld_reduce.specs.Cost.{stop_of}
+use Rattle.ld_infer.specs.Infers.{Stops, Suits, IsSuited, AreJudged, AreReadable, ArePrefixes}
 use Rattle.ld_infer.proofs.Accounts.{comes_at_once, comes_then, comes_ended}
-use Rattle.ld_infer.proofs.Tasks.{formed_answers, formed_high}
+use Rattle.ld_reduce.proofs.Tasks.{formed_answers, formed_high}
 use Rattle.ld_infer.proofs.Stopping.{stops_first, stops_then}
 use Rattle.ld_infer.proofs.Sorts.{gives_now}
 use Rattle.ld_infer.proofs.Going.{continues_refl, continues_trans, here_stays}

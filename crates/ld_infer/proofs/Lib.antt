@@ -1,4 +1,3 @@
-pub mod Tasks
 pub mod Accounts
 pub mod Contexts
 pub mod Theories

@@ -8,7 +8,7 @@ use Rattle.ld_infer.specs.declared.failure.RuleName.TheVariants.{Appl}
 use Rattle.ld_infer.specs.declared.failure.PathStep.{PathStep}
 use Rattle.ld_infer.specs.declared.failure.PathStep.TheVariants.{Fun}
 use Rattle.ld_infer.specs.declared.failure.InferFault.{InferFault}
-use Rattle.ld_infer.specs.Task.{Task, Gives, NotBuilt, Ends}
+use Rattle.ld_reduce.specs.Task.{Task, Gives, NotBuilt, Ends}
 use Rattle.ld_infer.specs.Account.{Account, Comes}
 use Rattle.ld_infer.specs.Reading.{Asked, Refusal, Found, found, inside, product_of, product_in, suits, function_reading, argument_reading}
 use Rattle.ld_infer.specs.Infers.{Stops, IsWithin}

@@ -4,9 +4,9 @@ use Rattle.ld_terms.specs.Item.{Item}
 use Rattle.ld_infer.specs.declared.failure.PathStep.{PathStep}
 use Rattle.ld_infer.specs.declared.failure.InferFault.{InferFault}
 use Rattle.ld_infer.specs.declared.failure.InferFault.TheVariants as fault
-use Rattle.ld_infer.specs.declared.job.Stop.{Stop}
-use Rattle.ld_infer.specs.declared.job.Stop.TheVariants as stop
-use Rattle.ld_infer.specs.Task.{Task, Gives, Fails, High, Nested, NotBuilt, ◌>>=◌, Ends}
+use Rattle.ld_reduce.specs.declared.stop.Stop.{Stop}
+use Rattle.ld_reduce.specs.declared.stop.Stop.TheVariants as stop
+use Rattle.ld_reduce.specs.Task.{Task, Gives, Fails, High, Nested, NotBuilt, ◌>>=◌, Ends}
 use Rattle.ld_infer.specs.Account.{Account, Comes}
 use Rattle.ld_infer.specs.Reading.{Refusal, inside, within}
 use Rattle.ld_infer.specs.Infers.{StopsBy, Stops, IsWithin, IsRefusedBy, refusal_of}

@@ -13,11 +13,12 @@ use Rattle.ld_infer.specs.declared.failure.InferFault.{InferFault}
 use Rattle.ld_infer.specs.declared.failure.InferFault.TheVariants as fault
 use Rattle.ld_infer.specs.declared.inference.Typed.{Typed}
 use Rattle.ld_infer.specs.declared.theory.VariableTyped.{VariableTyped}
-use Rattle.ld_infer.specs.Task.{Gives}
+use Rattle.ld_reduce.specs.Task.{Gives}
 use Rattle.ld_infer.specs.Account.{Account, Comes}
 use Rattle.ld_infer.specs.Reading.{type_in, lifted, variable_reading, found}
 use Rattle.ld_infer.specs.Standing.{Standing, known, here}
-use Rattle.ld_infer.specs.Infers.{Infers, IsTyped, IsVariableTyped, Stops, stop_of}
+use Rattle.ld_reduce.specs.Cost.{stop_of}
+use Rattle.ld_infer.specs.Infers.{Infers, IsTyped, IsVariableTyped, Stops}
 use Rattle.ld_infer.proofs.Sorts.{at_fault}
 use Rattle.ld_infer.proofs.Formed.{type_formed, formed_stops}
 

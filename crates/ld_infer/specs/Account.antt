@@ -1,6 +1,6 @@
 -- How many steps a check may make and has made, and what it answers within them.
 use Rattle.std.specs.Prelude.{◌≡◌, ◌<◌, ◌+◌, ℕ, []}
-use Rattle.ld_infer.specs.Task.{Pairs, Answer, Task, Answers}
+use Rattle.ld_reduce.specs.Task.{Pairs, Answer, Task, Answers}
 
 -- the steps that are left, those that were made, and the pairs that are known
 pub record Account : Type 0 where

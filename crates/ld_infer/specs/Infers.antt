@@ -10,8 +10,6 @@ use Rattle.ld_terms.specs.Named.{IsWellFormed, AreNamed}
 use Rattle.ld_terms.specs.Entry.{AreScoped}
 use Rattle.ld_terms.specs.Known.{IsNode, JudgeArguments}
 use Rattle.ld_terms.specs.declared.bank.TermId.{TermId}
-use Rattle.ld_terms.specs.declared.bank.TermFault.{TermFault}
-use Rattle.ld_terms.specs.declared.bank.TermFault.TheVariants as term
 use Rattle.ld_record.specs.declared.record.JudgeId.{JudgeId}
 use Rattle.ld_record.specs.declared.record.Step.{Step}
 use Rattle.ld_record.specs.declared.record.Step.TheVariants.{Inst, InstPrim}
@@ -22,21 +20,17 @@ use Rattle.ld_infer.specs.declared.failure.Why.TheVariants as why
 use Rattle.ld_infer.specs.declared.failure.Failure.{Failure}
 use Rattle.ld_infer.specs.declared.failure.InferFault.{InferFault}
 use Rattle.ld_infer.specs.declared.failure.InferFault.TheVariants as fault
-use Rattle.ld_infer.specs.declared.job.Stop.{Stop}
-use Rattle.ld_infer.specs.declared.job.Stop.TheVariants as stop
+use Rattle.ld_reduce.specs.declared.stop.Stop.{Stop}
+use Rattle.ld_reduce.specs.declared.stop.Stop.TheVariants as stop
 use Rattle.ld_infer.specs.declared.failure.PathStep.{PathStep}
 use Rattle.ld_infer.specs.declared.inference.Typed.{Typed}
 use Rattle.ld_infer.specs.declared.inference.BodyTyped.{BodyTyped}
 use Rattle.ld_infer.specs.declared.inference.FunctionTyped.{FunctionTyped}
 use Rattle.ld_infer.specs.declared.theory.VariableTyped.{VariableTyped}
-use Rattle.ld_infer.specs.Task.{Task, Gives, Fails, High, Nested, NotBuilt}
+use Rattle.ld_reduce.specs.Task.{Task, Gives, Fails, High, Nested, NotBuilt}
 use Rattle.ld_infer.specs.Account.{Account, Comes, RunsOut}
 use Rattle.ld_infer.specs.Reading.{Reason, NoType, NotSort, NotFunction, BoxBody, NotSame, Again, Refusal, Found, found, type_in}
 use Rattle.ld_infer.specs.Standing.{Standing, known, env, here, without, KnowsSort}
-
-abbrev pub stop_of : TermFault → Stop
-stop_of term.High = stop.High
-stop_of term.Memory = stop.Memory
 
 -- a failure of the code, with its terms as trees
 abbrev pub reason_of : List Item → Why → Reason

@@ -1,4 +1,3 @@
-pub mod Task
 pub mod Account
 pub mod Reading
 pub mod Standing

@@ -9,7 +9,7 @@ use Rattle.ld_infer.specs.declared.failure.RuleName.{RuleName}
 use Rattle.ld_infer.specs.declared.failure.RuleName.TheVariants.{Form, Appl, Abst, Inst, InstPrim}
 use Rattle.ld_infer.specs.declared.failure.PathStep.{PathStep}
 use Rattle.ld_infer.specs.declared.failure.PathStep.TheVariants.{Dom, Ran, Fun, Arg, Body, Nth}
-use Rattle.ld_infer.specs.Task.{Task, gives, fails, nested, not_built, no_answer, step, formed, ◌>>=◌, ◌>>◌, faults_by}
+use Rattle.ld_reduce.specs.Task.{Task, gives, fails, nested, not_built, no_answer, step, formed, ◌>>=◌, ◌>>◌, faults_by}
 
 -- a rule and the number of a premise, for which a reading is asked
 abbrev pub Asked : Type 0

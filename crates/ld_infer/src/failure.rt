@@ -1,8 +1,8 @@
 //! What a rule refuses, and where.
 ghost use Rattle.std.specs.Prelude.{◌≡◌, ◌∷◌, [], ◌<◌, length, slice_get, Some, OnOk, OnErr};
 
-use crate::job::Stop;
 use fb_base::NoMemory;
+use ld_reduce::Stop;
 use ld_terms::{TermFault, TermId};
 use std::alloc::Global;
 use std::marker::Model;
@@ -151,7 +151,7 @@ impl From<Stop> for InferFault {
 impl From<NoMemory> for InferFault {
     ghost use Rattle.std.specs.Prelude.{◌≡◌};
     ghost use Rattle.ld_infer.specs.declared.failure.InferFault.TheVariants.{Stop};
-    ghost use Rattle.ld_infer.specs.declared.job.Stop.TheVariants.{Memory};
+    ghost use Rattle.ld_reduce.specs.declared.stop.Stop.TheVariants.{Memory};
 
     ghost from_gives = { λ _ fault. fault ≡ Stop Memory };
 
@@ -163,7 +163,7 @@ impl From<NoMemory> for InferFault {
 impl From<TermFault> for InferFault {
     ghost use Rattle.std.specs.Prelude.{◌≡◌};
     ghost use Rattle.ld_infer.specs.declared.failure.InferFault.TheVariants.{Stop};
-    ghost use Rattle.ld_infer.specs.Infers.{stop_of};
+    ghost use Rattle.ld_reduce.specs.Cost.{stop_of};
 
     ghost from_gives = { λ fault f. f ≡ Stop (stop_of fault) };
 

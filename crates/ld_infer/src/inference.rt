@@ -10,11 +10,12 @@ ghost use Rattle.ld_infer.specs.declared.failure.PathStep.TheVariants.{Dom};
 
 use crate::failure::{InferFault, PathStep, RuleName, Why};
 use crate::instance::instance;
-use crate::job::{Job, Stop};
+use crate::job::Job;
 use crate::leaf::{sort_of_sort, star, variable};
 use crate::refusal::{box_body, refusal, refused_again, within};
 use crate::theory::Theory;
 use ld_record::{JudgeId, Step};
+use ld_reduce::Stop;
 use ld_terms::{Node, TermId};
 use std::alloc::Global;
 

@@ -5,7 +5,7 @@ ghost use Rattle.ld_terms.specs.Item.{One, IsSmall};
 ghost use Rattle.ld_terms.specs.Bank.{tree_at, IsTermAt};
 ghost use Rattle.ld_terms.specs.Tests.{is_star};
 ghost use Rattle.ld_infer.specs.Account.{Account};
-ghost use Rattle.ld_infer.specs.Task.{gives};
+ghost use Rattle.ld_reduce.specs.Task.{gives};
 ghost use Rattle.ld_infer.specs.Reading.{variable_reading, type_in};
 ghost use Rattle.ld_infer.specs.Reading as reading;
 ghost use Rattle.ld_infer.specs.Standing.{Continues, KnowsSort};
@@ -13,9 +13,9 @@ ghost use Rattle.ld_infer.specs.Infers.{Infers, IsReadable};
 
 use crate::failure::InferFault;
 use crate::inference::Typed;
-use crate::job::Stop;
 use crate::theory::Theory;
 use ld_record::JudgeId;
+use ld_reduce::Stop;
 use ld_terms::{Node, TermId};
 
 // The sort `*` has the type `box`.

@@ -16,6 +16,7 @@ mod variable;
 
 pub use failure::{Failure, InferFault, Path, PathStep, RuleName, Why};
 pub use inference::{Typed, infer, sort_of};
-pub use job::{Job, Stop};
+pub use job::Job;
+pub use ld_reduce::Stop;
 pub use refusal::within;
 pub use theory::{Theory, VariableTyped};

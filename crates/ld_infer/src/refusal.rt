@@ -7,8 +7,8 @@ ghost use Rattle.ld_infer.specs.Infers.{IsRefusedBy, IsToldAs, IsWithin, reason_
 ghost use Rattle.ld_infer.specs.declared.failure.RuleName.TheVariants as rule;
 
 use crate::failure::{Failure, InferFault, Path, PathStep, RuleName, Why};
-use crate::job::Stop;
 use crate::theory::Theory;
+use ld_reduce::Stop;
 use std::alloc::Global;
 
 // A refusal of the term itself.

@@ -2,7 +2,7 @@ use Rattle.std.proofs.lemmas.Result.{err_from_is_err_and}
 use Rattle.ld_terms.specs.Bank.{tree_at}
 use Rattle.ld_infer.specs.declared.failure.RuleName.TheVariants.{Weak}
 use Rattle.ld_infer.specs.Standing.{env, AddsFlag}
-use Rattle.ld_infer.specs.Task.{gives}
+use Rattle.ld_reduce.specs.Task.{gives}
 use Rattle.ld_defrules.specs.Judged.{type_judged, flag_judged}
 use Rattle.ld_defrules.proofs.Faults.{item_stops_first, judges_stop}
 use Rattle.ld_defrules.proofs.Going.{adds_flag_after, continues_trans}

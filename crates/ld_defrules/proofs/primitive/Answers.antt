@@ -4,7 +4,7 @@ use Rattle.ld_terms.specs.Bank.{tree_at}
 use Rattle.ld_env.specs.Named.{names_of}
 use Rattle.ld_infer.specs.declared.failure.RuleName.TheVariants.{DefPrim}
 use Rattle.ld_infer.specs.Standing.{env, AddsEntry}
-use Rattle.ld_infer.specs.Task.{gives}
+use Rattle.ld_reduce.specs.Task.{gives}
 use Rattle.ld_defrules.specs.Judged.{type_judged, primitive_judged, primitive_of}
 use Rattle.ld_defrules.proofs.Faults.{item_stops_first, judges_stop}
 use Rattle.ld_defrules.proofs.Going.{adds_entry_after, same_primitive}

@@ -17,7 +17,7 @@ use Rattle.ld_infer.specs.declared.failure.RuleName.TheVariants as rule
 use Rattle.ld_infer.specs.declared.failure.PathStep.TheVariants.{Dom}
 use Rattle.ld_infer.specs.declared.failure.InferFault.{InferFault}
 use Rattle.ld_infer.specs.declared.inference.Typed.{Typed}
-use Rattle.ld_infer.specs.Task.{Gives}
+use Rattle.ld_reduce.specs.Task.{Gives}
 use Rattle.ld_infer.specs.Account.{Comes}
 use Rattle.ld_infer.specs.Reading.{Types, SortOf, read_within, part_reading, again_unless, refused, refusal, NoType, BoxBody, Again, found, product_reading, abstraction_reading, application_reading, body_reading, next_argument, arguments}
 use Rattle.ld_infer.specs.Standing.{env, without}

@@ -4,7 +4,7 @@ use Rattle.ld_terms.specs.Entry.{Env}
 use Rattle.ld_terms.specs.Bank.{tree_at}
 use Rattle.ld_env.specs.Named.{names_of as names_in}
 use Rattle.ld_infer.specs.Account.{Comes}
-use Rattle.ld_infer.specs.Task.{Gives}
+use Rattle.ld_reduce.specs.Task.{Gives}
 use Rattle.ld_infer.specs.Standing.{env, AddsEntry}
 use Rattle.ld_defrules.specs.Judged.{Judges, primitive_judged, primitive_of}
 use Rattle.fb_parse.specs.View.{view}
