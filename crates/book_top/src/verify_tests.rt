@@ -193,3 +193,24 @@ fn failing_calls_of_verify(rt: HostRuntime) -> Result<(), Fail> {
     }
     Ok(())
 }
+
+// Each byte of a small file changed to each other value. Only the name may be another: it is at place 17.
+#[test]
+fn changed_bytes(rt: HostRuntime) -> Result<(), Fail> {
+    for place in 0..27 {
+        for value in 0..256 {
+            let mut bytes = ONE_PRIMITIVE;
+            bytes[place] = value as u8;
+            let same = bytes == ONE_PRIMITIVE;
+            let wanted = if same || place == 17 { 0 } else { 8 };
+            let mut desk = desk_of(
+                rt.alloc(),
+                [("deriv", bytes.as_slice()), ("out", b"old")],
+                &[],
+            )?;
+            let status = run(rt.alloc(), &["verify", "deriv"], &mut desk);
+            assert_eq!(rt; status.code(), wanted, "{place}: {value}: {status:?}");
+        }
+    }
+    Ok(())
+}
