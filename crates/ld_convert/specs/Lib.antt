@@ -1,0 +1,4 @@
+pub mod Apart
+pub mod Known
+pub mod Compares
+pub mod Laws
