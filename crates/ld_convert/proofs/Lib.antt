@@ -1,2 +1,4 @@
+mod Finding
+mod Gathering
 pub mod Agreeing
 pub mod Once

@@ -1,4 +1,9 @@
 //! The plain comparison of two terms: head forms, parts and unfoldings, with the pairs that were found the same.
 #![tactic(auto)]
 
+mod known;
 pub mod laws;
+mod parts;
+
+pub use known::{Known, Pair};
+pub use parts::{Part, gather};

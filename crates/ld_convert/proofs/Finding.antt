@@ -1,0 +1,66 @@
+-- How a pair is found among those that are known.
+use Rattle.std.proofs.Common.{◌≡◌, ◌<◌, ◌≤◌, ℕ, zero, suc, true, false, Bool, List, [], ◌∷◌, length, drop, slice_index_or, refl, ap, sym, ◌∙◌, subst, arith, ◌&&◌, ◌||◌}
+use Rattle.std.proofs.lemmas.Option.{slice_get-get_or}
+use Rattle.ld_terms.specs.Tree.{Tree}
+use Rattle.ld_terms.specs.Item.{Item}
+use Rattle.ld_terms.specs.Bank.{tree_at}
+use Rattle.ld_terms.specs.Tests.{equals}
+use Rattle.ld_terms.proofs.TreeTests.{equal_trees, other_trees}
+use Rattle.ld_convert.specs.Known.{is_known}
+use Rattle.ld_convert.specs.Pairs.{pair_of, pairs_of, IsFound}
+use Rattle.ld_convert.specs.declared.known.Pair.{Pair}
+
+both_true : (s t r : Bool) → s ≡ true → t ≡ true → ((s && t) || r) ≡ true
+both_true s t r e f = cc
+
+first_false : (s t r : Bool) → s ≡ false → ((s && t) || r) ≡ r
+first_false s t r e = cc
+
+second_false : (s t r : Bool) → t ≡ false → ((s && t) || r) ≡ r
+second_false true t r e = cc
+second_false false t r e = refl
+
+known_at : (items : List Item) (ps : List Pair) (k : ℕ) (d : Pair) (a b : Tree) → k < length ps → tree_at items (slice_index_or ps k d).left ≡ a
+    → tree_at items (slice_index_or ps k d).right ≡ b → is_known (pairs_of items (drop k ps)) a b ≡ true
+known_at items [] k d a b lt l r = absurd (omega arith)
+known_at items (p ∷ ps) zero d a b lt l r =
+    both_true (equals (tree_at items p.left) a) (equals (tree_at items p.right) b) (is_known (pairs_of items ps) a b) (equal_trees (tree_at items p.left) a l) (equal_trees (tree_at items p.right) b r)
+known_at items (p ∷ ps) (suc k) d a b lt l r = known_at items ps k d a b (omega arith) l r
+
+pub found_at : (items : List Item) (ps : List Pair) (k : ℕ) (d : Pair) (a b : Tree) → is_known (pairs_of items ps) a b ≡ is_known (pairs_of items (drop k ps)) a b → k < length ps
+    → tree_at items (slice_index_or ps k d).left ≡ a → tree_at items (slice_index_or ps k d).right ≡ b → IsFound items ps a b (slice_index_or ps k d).equal
+found_at items ps k d a b same lt l r = record {
+  known = same ∙ known_at items ps k d a b lt l r;
+  number = k;
+  pair = slice_index_or ps k d;
+  there = slice_get-get_or ps k d lt;
+  left = l;
+  right = r;
+  equal = refl;
+}
+
+-- one pair that is none
+pub not_first : (items : List Item) (ps : List Pair) (k : ℕ) (d : Pair) (a b : Tree) → k < length ps → (tree_at items (slice_index_or ps k d).left ≡ a → ⊥)
+    → is_known (pairs_of items (drop k ps)) a b ≡ is_known (pairs_of items (drop (suc k) ps)) a b
+not_first items [] k d a b lt n = absurd (omega arith)
+not_first items (p ∷ ps) zero d a b lt n = first_false (equals (tree_at items p.left) a) (equals (tree_at items p.right) b) (is_known (pairs_of items ps) a b) (other_trees (tree_at items p.left) a n)
+not_first items (p ∷ ps) (suc k) d a b lt n = not_first items ps k d a b (omega arith) n
+
+pub not_second : (items : List Item) (ps : List Pair) (k : ℕ) (d : Pair) (a b : Tree) → k < length ps → (tree_at items (slice_index_or ps k d).right ≡ b → ⊥)
+    → is_known (pairs_of items (drop k ps)) a b ≡ is_known (pairs_of items (drop (suc k) ps)) a b
+not_second items [] k d a b lt n = absurd (omega arith)
+not_second items (p ∷ ps) zero d a b lt n = second_false (equals (tree_at items p.left) a) (equals (tree_at items p.right) b) (is_known (pairs_of items ps) a b) (other_trees (tree_at items p.right) b n)
+not_second items (p ∷ ps) (suc k) d a b lt n = not_second items ps k d a b (omega arith) n
+
+pub none_left : (items : List Item) (ps : List Pair) (k : ℕ) (a b : Tree) → length ps ≤ k → is_known (pairs_of items (drop k ps)) a b ≡ false
+none_left items [] zero a b e = refl
+none_left items [] (suc k) a b e = refl
+none_left items (p ∷ ps) zero a b e = absurd (omega arith)
+none_left items (p ∷ ps) (suc k) a b e = none_left items ps k a b (omega arith)
+
+-- the same where the pairs are read from the vector's own list
+pub found_in : (items : List Item) (ps qs : List Pair) (k : ℕ) (d : Pair) (a b : Tree) → qs ≡ ps → is_known (pairs_of items ps) a b ≡ is_known (pairs_of items (drop k ps)) a b → k < length qs
+    → tree_at items (slice_index_or qs k d).left ≡ a → tree_at items (slice_index_or qs k d).right ≡ b → IsFound items ps a b (slice_index_or qs k d).equal
+found_in items ps qs k d a b e same lt l r =
+    let same' = subst (λ x. is_known (pairs_of items x) a b ≡ is_known (pairs_of items (drop k x)) a b) (sym e) same in
+    subst (λ x. IsFound items x a b (slice_index_or qs k d).equal) e (found_at items qs k d a b same' lt l r)
