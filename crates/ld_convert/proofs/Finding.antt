@@ -1,5 +1,5 @@
 -- How a pair is found among those that are known.
-use Rattle.std.proofs.Common.{◌≡◌, ◌<◌, ◌≤◌, ℕ, zero, suc, true, false, Bool, List, [], ◌∷◌, length, drop, slice_index_or, refl, ap, sym, ◌∙◌, subst, arith, ◌&&◌, ◌||◌}
+use Rattle.std.proofs.Common.{◌≡◌, ◌<◌, ◌≤◌, ℕ, zero, suc, true, false, Bool, List, [], ◌∷◌, length, drop, slice_index_or, refl, sym, ◌∙◌, subst, arith, ◌&&◌, ◌||◌}
 use Rattle.std.proofs.lemmas.Option.{slice_get-get_or}
 use Rattle.ld_terms.specs.Tree.{Tree}
 use Rattle.ld_terms.specs.Item.{Item}
@@ -7,7 +7,7 @@ use Rattle.ld_terms.specs.Bank.{tree_at}
 use Rattle.ld_terms.specs.Tests.{equals}
 use Rattle.ld_terms.proofs.TreeTests.{equal_trees, other_trees}
 use Rattle.ld_convert.specs.Known.{is_known}
-use Rattle.ld_convert.specs.Pairs.{pair_of, pairs_of, IsFound}
+use Rattle.ld_convert.specs.Pairs.{pairs_of, IsFound}
 use Rattle.ld_convert.specs.declared.known.Pair.{Pair}
 
 both_true : (s t r : Bool) → s ≡ true → t ≡ true → ((s && t) || r) ≡ true

@@ -1,10 +1,9 @@
 -- How the parts of two terms are gathered.
-use Rattle.std.proofs.Common.{◌≡◌, ◌≤◌, ℕ, Bool, true, false, List, [], ◌∷◌, ◌++◌, map, Option, None, Some, Result, Ok, Err, All, IfOk, refl, ap, sym, ◌∙◌, subst, arith}
+use Rattle.std.proofs.Common.{◌≡◌, ◌≤◌, ℕ, Bool, true, List, [], ◌∷◌, ◌++◌, Option, Some, Result, Ok, Err, All, IfOk, refl, ap, sym, ◌∙◌, subst, arith}
 use Rattle.std.proofs.lemmas.List.{map-append, append-nil, append_assoc}
 use Rattle.std.proofs.lemmas.List.Elements.{All-append, All-cons}
 use mathlib.Core.Path.{ap₂}
 use Rattle.fb_base.specs.declared.texts.NoMemory.{NoMemory}
-use Rattle.ld_terms.specs.Tree.{Tree}
 use Rattle.ld_terms.specs.Item.{Item, tree, list}
 use Rattle.ld_terms.specs.Bank.{item_at, item_of, tree_at, list_at, IsTermAt}
 use Rattle.ld_terms.specs.declared.bank.TermId.{TermId}

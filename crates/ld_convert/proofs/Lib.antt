@@ -1,4 +1,5 @@
 mod Finding
 mod Gathering
+mod Congruent
 pub mod Agreeing
 pub mod Once

@@ -1,5 +1,5 @@
 -- The pairs that a job keeps, over the terms of a bank and the equalities of a derivation.
-use Rattle.std.specs.Prelude.{◌≡◌, ◌≤◌, ℕ, true, List, map, slice_get, Some, All}
+use Rattle.std.specs.Prelude.{◌≡◌, ℕ, true, List, map, slice_get, Some, All}
 use Rattle.ld_terms.specs.Tree.{Tree}
 use Rattle.ld_terms.specs.Item.{Item}
 use Rattle.ld_terms.specs.Bank.{tree_at, IsTermAt}

@@ -1,6 +1,5 @@
 -- The parts of two terms, as they are gathered.
-use Rattle.std.specs.Prelude.{◌≡◌, ◌≤◌, ℕ, ⊤, Bool, true, false, List, [], ◌∷◌, ◌++◌, map, Option, None, Some, All}
-use Rattle.ld_terms.specs.Tree.{Tree}
+use Rattle.std.specs.Prelude.{◌≡◌, ◌≤◌, ℕ, ⊤, Bool, true, false, List, [], ◌∷◌, ◌++◌, length, map, Option, None, Some, All}
 use Rattle.ld_terms.specs.Item.{Item}
 use Rattle.ld_terms.specs.Bank.{tree_at, IsTermAt}
 use Rattle.ld_terms.specs.Known.{Known}
@@ -37,3 +36,9 @@ abbrev pub AreSame : Known → (bound : ℕ) → List EqId → List spec.Part �
 AreSame known bound [] [] = ⊤
 AreSame known bound (e ∷ es) (p ∷ ps) = Equates known e p.left p.right bound × AreSame known bound es ps
 AreSame known bound _ _ = ⊥
+
+-- there are parts, and an equality for each, which unfolds only entries that are there
+pub record SameParts (known : Known) (es : List EqId) (o : Option (List spec.Part)) : Type 0 where
+  pub parts : List spec.Part
+  pub is : o ≡ Some parts
+  pub same : AreSame known (length known.env) es parts

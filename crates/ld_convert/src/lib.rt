@@ -4,6 +4,8 @@
 mod known;
 pub mod laws;
 mod parts;
+mod whole;
 
 pub use known::{Known, Pair};
 pub use parts::{Part, gather};
+pub use whole::congruence;

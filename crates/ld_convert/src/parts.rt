@@ -17,12 +17,7 @@ pub struct Part {
 
 /// Gathers the parts of two terms behind those that are there: those of the heads, and then the spines, from left to right.
 /// The answer is whether the heads are alike and the spines as long.
-pub fn gather(
-    bank: &Bank,
-    a: TermId,
-    b: TermId,
-    parts: &mut Vec<Part>,
-) -> Result<bool, NoMemory>
+pub fn gather(bank: &Bank, a: TermId, b: TermId, parts: &mut Vec<Part>) -> Result<bool, NoMemory>
     requires live { All (IsLivePart bank.now) parts.old.items }
     requires first { IsTermAt bank.now a }
     requires second { IsTermAt bank.now b }
@@ -74,12 +69,7 @@ fn gather_arguments(
 }
 
 // One part more.
-fn push(
-    parts: &mut Vec<Part>,
-    left: TermId,
-    right: TermId,
-    under: u32,
-) -> Result<bool, NoMemory>
+fn push(parts: &mut Vec<Part>, left: TermId, right: TermId, under: u32) -> Result<bool, NoMemory>
     ensures { IfOk result (λ more. (more ≡ true) × (parts.new.items ≡ parts.old.items ++ record { left = left; right = right; under = under } ∷ [])) }
 {
     let part = Part { left, right, under };

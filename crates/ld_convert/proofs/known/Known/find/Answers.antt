@@ -1,6 +1,5 @@
 use Rattle.std.proofs.Common.{ap, ◌∙◌}
 use Rattle.ld_terms.specs.Item.{tree}
-use Rattle.ld_convert.specs.Pairs.{IsFound}
 use Rattle.ld_convert.proofs.Finding.{found_in}
 use Rattle.ld_convert.proofs.known.Known.find.Goals as goal
 
