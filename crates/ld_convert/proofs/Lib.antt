@@ -2,4 +2,5 @@ mod Finding
 mod Gathering
 mod Congruent
 pub mod Agreeing
+pub mod Spending
 pub mod Once

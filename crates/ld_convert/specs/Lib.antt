@@ -3,4 +3,6 @@ pub mod Known
 pub mod Compares
 pub mod Pairs
 pub mod Walks
+pub mod AtOnce
+pub mod Account
 pub mod Laws

@@ -1,11 +1,15 @@
 //! The plain comparison of two terms: head forms, parts and unfoldings, with the pairs that were found the same.
 #![tactic(auto)]
 
+mod at_once;
+mod job;
 mod known;
 pub mod laws;
 mod parts;
 mod whole;
 
+pub use at_once::same_at_once;
+pub use job::{Compared, Job};
 pub use known::{Known, Pair};
 pub use parts::{Part, gather};
 pub use whole::congruence;

@@ -1,0 +1,67 @@
+-- What a task that is made of tasks answers, and when it runs out.
+use Rattle.std.proofs.Common.{◌≡◌, ◌<◌, ◌+◌, ℕ, refl, sym, ap, ◌∙◌, subst, arith}
+use Rattle.ld_reduce.specs.Task.{Pairs, Answer, Gives, Fails, High, Nested, NotBuilt, Task, Ends, fault, high, nesting, unbuilt, ◌>>=◌, goes_on, ends, with_fault, faults_by, Answers}
+use Rattle.ld_reduce.specs.Work.{Work, Takes}
+use Rattle.ld_reduce.proofs.Tasks.{bind_answers, ends_answers, faults_answers}
+use Rattle.ld_convert.specs.Known.{or_else}
+use Rattle.ld_convert.specs.Account.{Comes, RunsOut}
+use Rattle.ld_convert.proofs.Agreeing.{gives_injective, no_value}
+
+-- steps one after the other
+pub takes_both : (a b d : Work) (i j : ℕ) → Takes a b i → Takes b d j → Takes a d (i + j)
+takes_both a b d i j s t = record { left = omega (arith, s.left, t.left); spent = omega (arith, s.spent, t.spent) }
+
+-- a task that gives a value, and what goes on with it
+pub comes_then : {E X Y : Type 0} (p : Task E X) (f : X → Task E Y) (x : X) (K M L : Pairs) (r : Answer E Y) (a b d : Work) → Comes p K (Gives x) M a b → Comes (f x) M r L b d → Comes (p >>= f) K r L a d
+comes_then p f x K M L r a b d s t = record {
+  steps = s.steps + t.steps;
+  answers = bind_answers p f x K M r L s.steps t.steps s.answers t.answers;
+  takes = takes_both a b d s.steps t.steps s.takes t.takes;
+}
+
+-- one that gives none ends the whole
+pub comes_end : {E X Y : Type 0} (p : Task E X) (f : X → Task E Y) (s : Answer E X) (r : Answer E Y) (K L : Pairs) (a b : Work) → Comes p K s L a b → Ends s r → Comes (p >>= f) K r L a b
+comes_end p f s r K L a b h e = record { steps = h.steps; answers = ends_answers p f s r K L h.steps h.answers e; takes = h.takes }
+
+pub comes_faults : {E F X : Type 0} (g : E → F) (p : Task E X) (r : Answer E X) (K L : Pairs) (a b : Work) → Comes p K r L a b → Comes (faults_by g p) K (with_fault g r) L a b
+comes_faults g p r K L a b h = record { steps = h.steps; answers = faults_answers g p r K L h.steps h.answers; takes = h.takes }
+
+-- the first task runs out
+pub out_first : {E X Y : Type 0} (p : Task E X) (f : X → Task E Y) (K : Pairs) (a b : Work) → RunsOut p K a b → RunsOut (p >>= f) K a b
+out_first p f K a b h = record {
+  none = λ r L n w. elim w [
+    | goes_on x M i j first second sum ↦ let l = h.none (Gives x) M i first in omega (arith, sum, l)
+    | ends stop first e ↦ h.none stop L n first
+  ];
+  left = h.left;
+}
+
+-- the second task runs out
+pub out_then : {E X Y : Type 0} (p : Task E X) (f : X → Task E Y) (x : X) (K M : Pairs) (a b d : Work) → Comes p K (Gives x) M a b → RunsOut (f x) M b d → RunsOut (p >>= f) K a d
+out_then {E = E} {X = X} {Y = Y} p f x K M a b d s h = record { none = λ r L n w. elim w [
+    | goes_on y N i j first second sum ↦ late r L n y N i j first second sum
+    | ends stop first e ↦ absurd (no_value (subst (λ v. Ends v r) (s.answers.only stop L n first).0 e))
+  ]; left = h.left }
+  where
+    late : (r : Answer E Y) (L : Pairs) (n : ℕ) (y : X) (N : Pairs) (i j : ℕ) → p K (Gives y) N i → f y N r L j → n ≡ i + j → a.left < n
+    late r L n y N i j first second sum =
+        let one = s.answers.only (Gives y) N i first in
+        let moved = subst (λ k. f x k r L j) one.1 (subst (λ z. f z N r L j) (gives_injective one.0) second) in
+        let l = h.none r L j moved in
+        omega (arith, sum, one.2, l, s.takes.left)
+
+pub out_faults : {E F X : Type 0} (g : E → F) (p : Task E X) (K : Pairs) (a b : Work) → RunsOut p K a b → RunsOut (faults_by g p) K a b
+out_faults g p K a b h = record { none = λ r L n w. h.none w.0 L n w.1; left = h.left }
+
+-- the task that goes on after a fault runs out before one
+pub or_else_out : {E F X : Type 0} (p : Task E X) (q : Task F X) (K : Pairs) (a b : Work) → RunsOut p K a b → RunsOut (or_else p q) K a b
+or_else_out p q K a b h = record {
+  none = λ r L n w. elim w [
+    | or_else.first x first e ↦ h.none (Gives x) L n first
+    | or_else.high first e ↦ h.none High L n first
+    | or_else.nesting first e ↦ h.none Nested L n first
+    | or_else.unbuilt first e ↦ h.none NotBuilt L n first
+    | or_else.second e M i j first second sum ↦ let l = h.none (Fails e) M i first in omega (arith, sum, l)
+  ];
+  left = h.left;
+}
