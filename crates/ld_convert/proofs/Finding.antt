@@ -7,7 +7,9 @@ use Rattle.ld_terms.specs.Bank.{tree_at}
 use Rattle.ld_terms.specs.Tests.{equals}
 use Rattle.ld_terms.proofs.TreeTests.{equal_trees, other_trees}
 use Rattle.ld_convert.specs.Known.{is_known}
-use Rattle.ld_convert.specs.Pairs.{pairs_of, IsFound}
+use Rattle.ld_convert.specs.Pairs.{pairs_of, IsFound, IsKeptWith}
+use Rattle.std.proofs.Common.{inl, inr, Result, Ok, Err, OnOk, OnErr, ◌++◌}
+use Rattle.fb_base.specs.declared.texts.NoMemory.{NoMemory}
 use Rattle.ld_convert.specs.declared.known.Pair.{Pair}
 
 both_true : (s t r : Bool) → s ≡ true → t ≡ true → ((s && t) || r) ≡ true
@@ -64,3 +66,8 @@ pub found_in : (items : List Item) (ps qs : List Pair) (k : ℕ) (d : Pair) (a b
 found_in items ps qs k d a b e same lt l r =
     let same' = subst (λ x. is_known (pairs_of items x) a b ≡ is_known (pairs_of items (drop k x)) a b) (sym e) same in
     subst (λ x. IsFound items x a b (slice_index_or qs k d).equal) e (found_at items qs k d a b same' lt l r)
+
+-- what adding a pair leaves
+pub kept_with : (old new : List Pair) (p : Pair) (result : Result (Unit {0}) NoMemory) → OnOk result (new ≡ old ++ p ∷ []) → OnErr result (new ≡ old) → IsKeptWith old new p
+kept_with old new p (Ok x) h k = inr h
+kept_with old new p (Err x) h k = inl k

@@ -1,6 +1,6 @@
 -- What a task that is made of tasks answers, and when it runs out.
-use Rattle.std.proofs.Common.{◌≡◌, ◌<◌, ◌+◌, ℕ, refl, sym, ap, ◌∙◌, subst, arith}
-use Rattle.ld_reduce.specs.Task.{Pairs, Answer, Gives, Fails, High, Nested, NotBuilt, Task, Ends, fault, high, nesting, unbuilt, ◌>>=◌, goes_on, ends, with_fault, faults_by, Answers}
+use Rattle.std.proofs.Common.{◌≡◌, ◌<◌, ◌+◌, ℕ, subst, arith}
+use Rattle.ld_reduce.specs.Task.{Pairs, Answer, Gives, Fails, High, Nested, NotBuilt, Task, Ends, ◌>>=◌, goes_on, ends, with_fault, faults_by}
 use Rattle.ld_reduce.specs.Work.{Work, Takes}
 use Rattle.ld_reduce.proofs.Tasks.{bind_answers, ends_answers, faults_answers}
 use Rattle.ld_convert.specs.Known.{or_else}
@@ -38,10 +38,13 @@ out_first p f K a b h = record {
 
 -- the second task runs out
 pub out_then : {E X Y : Type 0} (p : Task E X) (f : X → Task E Y) (x : X) (K M : Pairs) (a b d : Work) → Comes p K (Gives x) M a b → RunsOut (f x) M b d → RunsOut (p >>= f) K a d
-out_then {E = E} {X = X} {Y = Y} p f x K M a b d s h = record { none = λ r L n w. elim w [
+out_then {E = E} {X = X} {Y = Y} p f x K M a b d s h = record {
+  none = λ r L n w. elim w [
     | goes_on y N i j first second sum ↦ late r L n y N i j first second sum
     | ends stop first e ↦ absurd (no_value (subst (λ v. Ends v r) (s.answers.only stop L n first).0 e))
-  ]; left = h.left }
+  ];
+  left = h.left;
+}
   where
     late : (r : Answer E Y) (L : Pairs) (n : ℕ) (y : X) (N : Pairs) (i j : ℕ) → p K (Gives y) N i → f y N r L j → n ≡ i + j → a.left < n
     late r L n y N i j first second sum =

@@ -1,5 +1,5 @@
 -- Whether two trees are found the same at once.
-use Rattle.std.specs.Prelude.{◌≡◌, true, false, ◌||◌, length, List, Option, Some, None}
+use Rattle.std.specs.Prelude.{◌≡◌, true, false, ◌||◌, length, Option, Some, None}
 use Rattle.ld_terms.specs.Tree.{Tree}
 use Rattle.ld_terms.specs.Tests.{equals}
 use Rattle.ld_terms.specs.Known.{Known}

@@ -1,5 +1,5 @@
 -- The pairs that a job keeps, over the terms of a bank and the equalities of a derivation.
-use Rattle.std.specs.Prelude.{◌≡◌, ℕ, true, List, map, slice_get, Some, All}
+use Rattle.std.specs.Prelude.{◌≡◌, ◌⊎◌, ◌++◌, ◌∷◌, [], ℕ, true, List, map, slice_get, Some, All}
 use Rattle.ld_terms.specs.Tree.{Tree}
 use Rattle.ld_terms.specs.Item.{Item}
 use Rattle.ld_terms.specs.Bank.{tree_at, IsTermAt}
@@ -38,3 +38,7 @@ pub record IsFound (items : List Item) (ps : List Pair) (a b : Tree) (e : EqId) 
   pub left : tree_at items pair.left ≡ a
   pub right : tree_at items pair.right ≡ b
   pub equal : pair.equal ≡ e
+
+-- the pairs are those that were there, or these and the new one
+abbrev pub IsKeptWith : (old new : List Pair) → Pair → Type 0
+IsKeptWith old new p = (new ≡ old) ⊎ (new ≡ old ++ p ∷ [])

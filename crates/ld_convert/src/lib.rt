@@ -8,7 +8,7 @@ pub mod laws;
 mod parts;
 mod whole;
 
-pub use at_once::same_at_once;
+pub use at_once::{remember, same_at_once};
 pub use job::{Compared, Job};
 pub use known::{Known, Pair};
 pub use parts::{Part, gather};
