@@ -1,5 +1,5 @@
 -- What a task that is made of tasks answers, and when it runs out.
-use Rattle.std.proofs.Common.{◌≡◌, ◌<◌, ◌+◌, ℕ, subst, arith}
+use Rattle.std.proofs.Common.{refl, ◌≡◌, ◌<◌, ◌+◌, ℕ, subst, arith}
 use Rattle.ld_reduce.specs.Task.{Pairs, Answer, Gives, Fails, High, Nested, NotBuilt, Task, Ends, ◌>>=◌, goes_on, ends, with_fault, faults_by}
 use Rattle.ld_reduce.specs.Work.{Work, Takes}
 use Rattle.ld_reduce.proofs.Tasks.{bind_answers, ends_answers, faults_answers}
@@ -68,3 +68,47 @@ or_else_out p q K a b h = record {
   ];
   left = h.left;
 }
+
+gives_fails : {E X : Type 0} {x : X} {e : E} → ◌≡◌ {A = Answer E X} (Gives x) (Fails e) → ⊥
+gives_fails h = cc
+
+high_fails : {E X : Type 0} {e : E} → ◌≡◌ {A = Answer E X} High (Fails e) → ⊥
+high_fails h = cc
+
+nested_fails : {E X : Type 0} {e : E} → ◌≡◌ {A = Answer E X} Nested (Fails e) → ⊥
+nested_fails h = cc
+
+unbuilt_fails : {E X : Type 0} {e : E} → ◌≡◌ {A = Answer E X} NotBuilt (Fails e) → ⊥
+unbuilt_fails h = cc
+
+-- a fault, and what goes on after it
+pub or_else_then : {E F X : Type 0} (p : Task E X) (q : Task F X) (e : E) (K M L : Pairs) (r : Answer F X) (a b d : Work) → Comes p K (Fails e) M a b → Comes q M r L b d → Comes (or_else p q) K r L a d
+or_else_then {E = E} {F = F} {X = X} p q e K M L r a b d s t = record {
+  steps = s.steps + t.steps;
+  answers = record { is = or_else.second e M s.steps t.steps s.answers.is t.answers.is refl; only = λ v N m w. alone v N m w };
+  takes = takes_both a b d s.steps t.steps s.takes t.takes;
+}
+  where
+    alone : (v : Answer F X) (N : Pairs) (m : ℕ) → or_else p q K v N m → (v ≡ r) × (N ≡ L) × (m ≡ s.steps + t.steps)
+    alone v N m (or_else.first x first f) = absurd (gives_fails (s.answers.only (Gives x) N m first).0)
+    alone v N m (or_else.high first f) = absurd (high_fails (s.answers.only High N m first).0)
+    alone v N m (or_else.nesting first f) = absurd (nested_fails (s.answers.only Nested N m first).0)
+    alone v N m (or_else.unbuilt first f) = absurd (unbuilt_fails (s.answers.only NotBuilt N m first).0)
+    alone v N m (or_else.second f H i j first second sum) =
+        let one = s.answers.only (Fails f) H i first in
+        let two = t.answers.only v N j (subst (λ k. q k v N j) one.1 second) in
+        (two.0, two.1, omega (arith, sum, one.2, two.2))
+
+-- what goes on after a fault runs out
+pub or_else_out_then : {E F X : Type 0} (p : Task E X) (q : Task F X) (e : E) (K M : Pairs) (a b d : Work) → Comes p K (Fails e) M a b → RunsOut q M b d → RunsOut (or_else p q) K a d
+or_else_out_then {E = E} {F = F} {X = X} p q e K M a b d s t = record { none = λ v N m w. late v N m w; left = t.left }
+  where
+    late : (v : Answer F X) (N : Pairs) (m : ℕ) → or_else p q K v N m → a.left < m
+    late v N m (or_else.first x first f) = absurd (gives_fails (s.answers.only (Gives x) N m first).0)
+    late v N m (or_else.high first f) = absurd (high_fails (s.answers.only High N m first).0)
+    late v N m (or_else.nesting first f) = absurd (nested_fails (s.answers.only Nested N m first).0)
+    late v N m (or_else.unbuilt first f) = absurd (unbuilt_fails (s.answers.only NotBuilt N m first).0)
+    late v N m (or_else.second f H i j first second sum) =
+        let one = s.answers.only (Fails f) H i first in
+        let l = t.none v N j (subst (λ k. q k v N j) one.1 second) in
+        omega (arith, sum, one.2, l, s.takes.left)
