@@ -33,6 +33,16 @@ fn accepted_terms(rt: HostRuntime) -> Result<(), Fail> {
             "A := prim : *\nP := prim : A -> *\nf := prim : all x : A . P x\na := prim : A\nb := f a : P a",
             "done: 5 items, 5 entries, 0 steps\n",
         ),
+        // The type `S` of `A` leads to `*`, by one step.
+        (
+            "S := * : box\nA := prim : S\nx := prim : A",
+            "done: 3 items, 3 entries, 1 steps\n",
+        ),
+        // The type `F` of `f` leads to `A -> A`, by one step, which is typed again, by another.
+        (
+            "A := prim : *\nF := A -> A : *\nf := prim : F\na := prim : A\nb := f a : A",
+            "done: 5 items, 5 entries, 2 steps\n",
+        ),
         // A name is that of the innermost binder.
         (
             "k := fun x : * . fun y : x . fun x : * . y : all x : * . x -> * -> x",
@@ -104,6 +114,15 @@ fn refused_premises(rt: HostRuntime) -> Result<(), Fail> {
             "4:3: rule abst 1 at body.body.arg.dom\n",
         ),
         ("P := box : *", "1:1: rule def 2 at body\n"),
+        // A type that leads to no sort, and one that leads to no product.
+        (
+            "A := prim : *\na := prim : A\nb := prim : a",
+            "3:1: rule def-prim 2 at type\n",
+        ),
+        (
+            "A := prim : *\np := prim : A\nr := p p : A",
+            "3:1: rule appl 1 at body.fun\n",
+        ),
     ] {
         check(&rt, rt.alloc(), book.as_bytes(), 3, report)?;
     }
@@ -127,15 +146,7 @@ fn refused_texts(rt: HostRuntime) -> Result<(), Fail> {
         ("[x : *]\ny := x : *", "2:6: text: unknown name x\n"),
         // The name is looked at before the names of the terms.
         ("A := prim : *\nA := y z : *", "2:1: text: name taken A\n"),
-        // Not built yet: a sort or a function that has to be exposed, unequal types.
-        (
-            "A := prim : *\na := prim : A\nb := prim : a",
-            "3:1: text: not built\n",
-        ),
-        (
-            "A := prim : *\np := prim : A\nr := p p : A",
-            "3:1: text: not built\n",
-        ),
+        // Not built yet: a comparison of unequal types.
         (
             "P := prim : *\nQ := prim : *\np := prim : P\nq := prim : Q -> Q\nr := q p : Q",
             "5:1: text: not built\n",

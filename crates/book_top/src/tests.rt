@@ -116,8 +116,8 @@ fn refused_items(rt: HostRuntime) -> Result<(), Fail> {
         ),
         (
             "A := prim : *\nx := A A : *",
-            1,
-            "2:1: text: not built\n",
+            3,
+            "2:1: rule appl 1 at body.fun\n",
             first,
         ),
         (
@@ -183,7 +183,7 @@ fn places_of_refusals(rt: HostRuntime) -> Result<(), Fail> {
         ("x := y -> z : *", TextWhat::Unknown, 5, 6),
         ("A := prim : *\nx := y : A", TextWhat::Unknown, 19, 20),
         ("A := prim : *\nA := y : z", TextWhat::NameTaken, 14, 15),
-        ("A := prim : *\nx := A A : *", TextWhat::NotBuilt, 14, 26),
+        ("A := prim : *\nx := A : A", TextWhat::NotBuilt, 14, 24),
         // The fault of a name is at the name alone.
         ("x := y(*) : *", TextWhat::Unknown, 5, 6),
         ("[xy : *]\n| z := xy(*) : *", TextWhat::NotAConstant, 16, 18),

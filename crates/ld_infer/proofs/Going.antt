@@ -13,6 +13,7 @@ use Rattle.ld_record.specs.Kept.{known_of, IsSound, Begins}
 use Rattle.ld_record.specs.Growth.{Knows, Adds}
 use Rattle.ld_record.proofs.Keeping.{begins_refl, begins_trans}
 use Rattle.ld_record.proofs.Growing.{adds_refl, adds_trans, adds_by, knows_later, known_later}
+use Rattle.ld_reduce.specs.Cost.{Goes}
 use Rattle.ld_infer.specs.Standing.{Standing, known, Continues, here, KnowsSort, Enters, without_last}
 
 pub continues_refl : (s : Standing) → Continues s s
@@ -81,6 +82,14 @@ continues_kept old inside kept context view same begins adds =
     let now : Standing = record { items = inside.items; kept = kept; entries = inside.entries; context = context } in
     let P : Standing → Type 0 = λ s. Continues s now in
     subst P view (record { items = extends_refl inside.items; kept = begins; adds = adds; entries = refl; context = same })
+
+-- Terms, contexts, equalities and judgements are added.
+pub continues_goes : (old inside : Standing) (items : List Item) (kept : List Kept) (context : Trees) → inside ≡ old → context ≡ inside.context → Goes inside.items items inside.kept kept
+    → Continues old (record { items = items; kept = kept; entries = inside.entries; context = context })
+continues_goes old inside items kept context view same goes =
+    let now : Standing = record { items = items; kept = kept; entries = inside.entries; context = context } in
+    let P : Standing → Type 0 = λ s. Continues s now in
+    subst P view (record { items = goes.extends; kept = goes.begins; adds = goes.adds; entries = refl; context = same })
 
 -- A variable is put into the context, for the values that a theory had and has.
 pub enters_kept : (old inside : Standing) (kept : List Kept) (context : Trees) (x y : Tree) → inside ≡ old → context ≡ inside.context ▸ x

@@ -21,30 +21,30 @@ use Rattle.ld_infer.specs.declared.failure.PathStep.TheVariants.{Arg}
 use Rattle.ld_infer.specs.declared.failure.InferFault.{InferFault}
 use Rattle.ld_infer.specs.declared.failure.InferFault.TheVariants as fault
 use Rattle.ld_infer.specs.declared.inference.Typed.{Typed}
-use Rattle.ld_infer.specs.declared.inference.FunctionTyped.{FunctionTyped}
+use Rattle.ld_infer.specs.declared.function.FunctionTyped.{FunctionTyped}
 use Rattle.ld_reduce.specs.Task.{Task, Gives}
 use Rattle.ld_infer.specs.Account.{Account, Comes}
-use Rattle.ld_infer.specs.Reading.{Asked, Refusal, found, Types, part_reading, again_unless, body_reading, function_reading, argument_reading, application_reading}
+use Rattle.ld_infer.specs.Reading.{Asked, Refusal, found, Types, part_reading, again_unless, body_reading, product_read, function_reading, argument_reading, application_reading}
 use Rattle.ld_infer.specs.Standing.{Standing, known, env, here, Continues, KnowsSort}
 use Rattle.ld_reduce.specs.Cost.{stop_of}
 use Rattle.ld_infer.specs.Infers.{Stops, IsTyped, IsTypedAgain, IsBodyTyped, IsFunctionTyped, IsSuited}
 use Rattle.ld_infer.proofs.Going.{continues_trans, here_stays, term_stays, tree_stays, knows_stays}
 use Rattle.ld_infer.proofs.Staying.{known_here, at_same}
 use Rattle.ld_infer.proofs.Sorts.{gives_now}
-use Rattle.ld_infer.proofs.Parting.{function_given, argument_given}
+use Rattle.ld_infer.proofs.Parting.{product_read_given, argument_given}
 use Rattle.ld_infer.proofs.Binding.{body_sort_stops, body_given}
 use Rattle.ld_infer.proofs.Applying.{application_stops_argument, application_stops_formed, application_given}
 
 -- Functions and arguments.
 pub function_typed : (a b : Standing) (nest : ℕ) (f : TermId) (x : Typed) (dom ran : TermId) (w w' : Account) → IsTyped a b (Types (env a) a.context (nest + 1) (Appl, 1) (tree_at a.items f)) f w w' x
     → IsTermAt b.items dom → IsTermAt b.items ran → tree_at b.items x.of ≡ Pi (tree_at b.items dom) (tree_at b.items ran)
-    → IsFunctionTyped a b (function_reading (env a) (part_reading nest (env a)) a.context (tree_at a.items f)) f w w' (record { judge = x.judge; domain = dom; range = ran })
+    → IsFunctionTyped a b (product_read (env a) (part_reading nest (env a)) a.context (tree_at a.items f)) f w w' (record { judge = x.judge; domain = dom; range = ran })
 function_typed a b nest f x dom ran w w' h at_dom at_ran e =
     let P : Tree → Type 0 = λ y. Knows (known b) x.judge (here a (tree_at a.items f) y) in
     record {
       domain = at_dom;
       range = at_ran;
-      gives = function_given (env a) (part_reading nest (env a)) a.context (tree_at a.items f) (tree_at b.items x.of) (tree_at b.items dom) (tree_at b.items ran) (is_some x.of_judge) w w' h.gives e;
+      gives = product_read_given (env a) (part_reading nest (env a)) a.context (tree_at a.items f) (tree_at b.items x.of) (tree_at b.items dom) (tree_at b.items ran) (is_some x.of_judge) w w' h.gives e;
       judged = subst P e h.judged;
     }
 

@@ -16,6 +16,8 @@ pub mod Applying
 pub mod Inferring
 pub mod Around
 pub mod Prefixing
+pub mod HeadScopes
+pub mod Exposure
 pub mod Instances
 pub mod Judging
 pub mod Closed

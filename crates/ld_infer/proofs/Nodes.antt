@@ -54,6 +54,17 @@ no_box_node items (node.Const k us) t q at same = ap (λ x. is_box (tree x)) (sy
 no_box_node items node.Nil t q at same = absurd (no_list _ _ same at.form)
 no_box_node items (node.Cons u us) t q at same = absurd (no_list _ _ same at.form)
 
+pub no_star_node : (items : List Item) (n : Node) (t : TermId) → (n ≡ node.Star → ⊥) → IsTermAt items t → item_of items n ≡ item_at items t → is_star (tree_at items t) ≡ false
+no_star_node items node.Star t q at same = absurd (q refl)
+no_star_node items node.Box_ t q at same = ap (λ x. is_star (tree x)) (sym same)
+no_star_node items (node.Var i) t q at same = ap (λ x. is_star (tree x)) (sym same)
+no_star_node items (node.App f u) t q at same = ap (λ x. is_star (tree x)) (sym same)
+no_star_node items (node.Lam a m) t q at same = ap (λ x. is_star (tree x)) (sym same)
+no_star_node items (node.Pi a b) t q at same = ap (λ x. is_star (tree x)) (sym same)
+no_star_node items (node.Const k us) t q at same = ap (λ x. is_star (tree x)) (sym same)
+no_star_node items node.Nil t q at same = absurd (no_list _ _ same at.form)
+no_star_node items (node.Cons u us) t q at same = absurd (no_list _ _ same at.form)
+
 pub no_product_node : (items : List Item) (n : Node) (t : TermId) → ((a b : TermId) → n ≡ node.Pi a b → ⊥) → IsTermAt items t → item_of items n ≡ item_at items t → product_of (tree_at items t) ≡ None
 no_product_node items node.Star t q at same = ap (λ x. product_of (tree x)) (sym same)
 no_product_node items node.Box_ t q at same = ap (λ x. product_of (tree x)) (sym same)

@@ -6,15 +6,14 @@ use Rattle.ld_terms.specs.Entry.{Env}
 use Rattle.ld_terms.specs.Tests.{equals}
 use Rattle.ld_infer.specs.declared.failure.RuleName.TheVariants.{Appl}
 use Rattle.ld_infer.specs.declared.failure.PathStep.{PathStep}
-use Rattle.ld_infer.specs.declared.failure.PathStep.TheVariants.{Fun}
 use Rattle.ld_infer.specs.declared.failure.InferFault.{InferFault}
 use Rattle.ld_reduce.specs.Task.{Task, Gives, NotBuilt, Ends}
 use Rattle.ld_infer.specs.Account.{Account, Comes}
-use Rattle.ld_infer.specs.Reading.{Asked, Refusal, Found, found, inside, product_of, product_in, suits, function_reading, argument_reading}
+use Rattle.ld_infer.specs.Reading.{Asked, Refusal, Found, found, inside, product_of, product_in, suits, product_read, argument_reading}
 use Rattle.ld_infer.specs.Infers.{Stops, IsWithin}
 use Rattle.ld_infer.proofs.Accounts.{comes_then, comes_ended, comes_faulted}
 use Rattle.ld_infer.proofs.Stopping.{stops_first, stops_within, gives_within}
-use Rattle.ld_infer.proofs.Sorts.{gives_now, not_built_now, not_built_first}
+use Rattle.ld_infer.proofs.Sorts.{gives_now, not_built_now}
 use Rattle.ld_terms.proofs.TreeTests.{equal_trees, other_trees}
 
 module _ (Δ : Env) (read : Trees → Asked → Tree → Task Refusal Found) (ctx : Trees) where
@@ -22,25 +21,13 @@ module _ (Δ : Env) (read : Trees → Asked → Tree → Task Refusal Found) (ct
   product_there o p q type w e =
       let P : Option (Tree × Tree) → Type 0 = λ x. Comes (product_in Δ (count ctx) (read ctx) x q type) (Gives p) w w in subst P (sym e) (gives_now p w)
 
-  no_product : (o : Option (Tree × Tree)) (q : Asked) (type : Tree) (w : Account) → o ≡ None → Comes (product_in Δ (count ctx) (read ctx) o q type) NotBuilt w w
-  no_product o q type w e =
-      let P : Option (Tree × Tree) → Type 0 = λ x. Comes (product_in Δ (count ctx) (read ctx) x q type) NotBuilt w w in subst P (sym e) (not_built_first _ w)
+  pub product_read_stops : (items : List Item) (f : Tree) (x : InferFault) (w w' : Account) → Stops items (read ctx (Appl, 1) f) x w w' → Stops items (product_read Δ read ctx f) x w w'
+  product_read_stops items f x w w' h = stops_first items (read ctx (Appl, 1) f) _ x w w' h
 
-  pub function_stops : (items : List Item) (f : Tree) (x g : InferFault) (w w' : Account) → Stops items (read ctx (Appl, 1) f) x w w' → IsWithin Fun x g
-      → Stops items (function_reading Δ read ctx f) g w w'
-  function_stops items f x g w w' h is = stops_within items Fun _ x g w w' (stops_first items (read ctx (Appl, 1) f) _ x w w' h) is
-
-  pub function_given : (f type dom ran : Tree) (comes : Bool) (w w' : Account) → Comes (read ctx (Appl, 1) f) (Gives (found type comes)) w w' → type ≡ Pi dom ran
-      → Comes (function_reading Δ read ctx f) (Gives (dom, ran)) w w'
-  function_given f type dom ran comes w w' h e =
-      gives_within Fun _ (dom, ran) w w'
-      (comes_then (read ctx (Appl, 1) f) _ (found type comes) (Gives (dom, ran)) w w' w' h (product_there (product_of type) (dom, ran) (Appl, 1) type w' (ap product_of e)))
-
-  pub function_not_built : (f type : Tree) (comes : Bool) (w w' : Account) → Comes (read ctx (Appl, 1) f) (Gives (found type comes)) w w' → product_of type ≡ None
-      → Comes (function_reading Δ read ctx f) NotBuilt w w'
-  function_not_built f type comes w w' h e =
-      comes_faulted (inside Fun) _ NotBuilt w w'
-      (comes_then (read ctx (Appl, 1) f) _ (found type comes) NotBuilt w w' w' h (no_product (product_of type) (Appl, 1) type w' e))
+  pub product_read_given : (f type dom ran : Tree) (comes : Bool) (w w' : Account) → Comes (read ctx (Appl, 1) f) (Gives (found type comes)) w w' → type ≡ Pi dom ran
+      → Comes (product_read Δ read ctx f) (Gives (dom, ran)) w w'
+  product_read_given f type dom ran comes w w' h e =
+      comes_then (read ctx (Appl, 1) f) _ (found type comes) (Gives (dom, ran)) w w' w' h (product_there (product_of type) (dom, ran) (Appl, 1) type w' (ap product_of e))
 
 -- an argument, where read is the reading of parts in a context of so many variables
 module _ (Δ : Env) (depth : ℕ) (read : Asked → Tree → Task Refusal Found) where

@@ -26,10 +26,6 @@ fails_now e w = comes_at_once (fails e) (Fails e) w (fails_answers e w.known)
 pub not_built_now : {E X : Type 0} (w : Account) → Comes {E = E} {X = X} not_built NotBuilt w w
 not_built_now w = comes_at_once not_built NotBuilt w (not_built_answers w.known)
 
--- what begins with a form that is not built is not built
-pub not_built_first : {E X Y : Type 0} (f : X → Task E Y) (w : Account) → Comes (not_built >>= f) NotBuilt w w
-not_built_first f w = comes_ended not_built f NotBuilt NotBuilt w w (not_built_now w) Ends.unbuilt
-
 -- at a nesting that is not passed, the reading of a term is that by its form
 pub reads : (Δ : Env) (ctx : Trees) (nest : ℕ) (q : Asked) (t t' : Tree) (P : Task Refusal Found → Type 0) → nest ≤ 1000 → t ≡ t'
     → P (reading Δ (part_reading nest Δ) ctx q t') → P (Types Δ ctx nest q t)
@@ -41,21 +37,13 @@ reads Δ ctx nest q t t' P less same h =
 
 -- where a question asks whether a tree is a sort
 module _ (Δ : Env) (depth : ℕ) (read : Asked → Tree → Task Refusal Found) (q : Asked) where
-  pub sort_in_true : (is : Bool) (type : Tree) (w : Account) → is ≡ true → Comes (sort_in Δ depth read is q type) (Gives type) w w
+  pub sort_in_true : (is : Bool) (type : Tree) (w : Account) → is ≡ true → Comes (sort_in Δ depth is q type) (Gives type) w w
   sort_in_true true type w e = gives_now type w
   sort_in_true false type w e = cc
-
-  pub sort_in_false : (is : Bool) (type : Tree) (w : Account) → is ≡ false → Comes (sort_in Δ depth read is q type) NotBuilt w w
-  sort_in_false false type w e = not_built_first (λ t. exposed_sort Δ depth read (is_star t) q type) w
-  sort_in_false true type w e = cc
 
   pub sort_given : (t type : Tree) (comes : Bool) (w w' : Account) → Comes (read q t) (Gives (found type comes)) w w' → (is_star type || is_box type) ≡ true
       → Comes (sort_of Δ depth read q t) (Gives type) w w'
   sort_given t type comes w w' h e = comes_then (read q t) _ (found type comes) (Gives type) w w' w' h (sort_in_true (is_star type || is_box type) type w' e)
-
-  pub sort_not_built : (t type : Tree) (comes : Bool) (w w' : Account) → Comes (read q t) (Gives (found type comes)) w w' → (is_star type || is_box type) ≡ false
-      → Comes (sort_of Δ depth read q t) NotBuilt w w'
-  sort_not_built t type comes w w' h e = comes_then (read q t) _ (found type comes) NotBuilt w w' w' h (sort_in_false (is_star type || is_box type) type w' e)
 
   pub sort_stops : (items : List Item) (t : Tree) (f : InferFault) (w w' : Account) → Stops items (read q t) f w w' → Stops items (sort_of Δ depth read q t) f w w'
   sort_stops items t f w w' h = stops_first items (read q t) _ f w w' h

@@ -21,6 +21,7 @@ use Rattle.ld_record.specs.declared.record.Kept.{Kept}
 use Rattle.ld_record.specs.Kept.{known_of, IsSound}
 use Rattle.ld_record.specs.Growth.{Knows, KnowsContext, Adds, over_first}
 use Rattle.ld_record.proofs.Growing.{known_later, sound_later}
+use Rattle.ld_reduce.specs.Cost.{Goes}
 use Rattle.ld_infer.specs.declared.theory.Level.{Level}
 use Rattle.ld_infer.specs.declared.theory.Variable.{Variable}
 use Rattle.ld_infer.specs.Theory.{types_of, context_of, IsJudgedIn, IsLevel, IsVariable, no_level, no_variable, level_at, variable_at, AreLevels, IsTheory}
@@ -121,6 +122,14 @@ theory_adds items old new entries star box levels variables sound adds h =
       levels_are = levels_later items (known_of items old) (known_of items new) levels variables adds h.levels_are;
       room = subst Room same h.room;
     }
+
+-- terms and records were added at the end
+pub theory_goes : (old new : List Item) (before after : List Kept) (entries : List Named) (star box : TermId) (levels : List Level) (variables : List Variable)
+    → Goes old new before after → IsTheory old before entries star box levels variables → IsTheory new after entries star box levels variables
+theory_goes old new before after entries star box levels variables goes h =
+    let P : Known → Type 0 = λ k. Adds k (known_of new after) in
+    theory_adds new before after entries star box levels variables goes.sound (subst P (sym (known_later old new before goes.extends h.sound)) goes.adds)
+    (theory_later old new before entries star box levels variables goes.extends h)
 
 -- the levels and variables change, and nothing else
 pub theory_levels : (items : List Item) (kept : List Kept) (entries : List Named) (star box : TermId) (old new : List Level) (before after : List Variable)

@@ -11,10 +11,12 @@ use Rattle.ld_terms.specs.Entry.{AreScoped}
 use Rattle.ld_terms.specs.Known.{IsNode, JudgeArguments}
 use Rattle.ld_terms.specs.declared.bank.TermId.{TermId}
 use Rattle.ld_record.specs.declared.record.JudgeId.{JudgeId}
+use Rattle.ld_record.specs.declared.record.EqId.{EqId}
 use Rattle.ld_record.specs.declared.record.Step.{Step}
 use Rattle.ld_record.specs.declared.record.Step.TheVariants.{Inst, InstPrim}
 use Rattle.ld_record.specs.Follows.{numbers_of}
 use Rattle.ld_record.specs.Growth.{Knows}
+use Rattle.ld_reduce.specs.Cost.{Equates}
 use Rattle.ld_infer.specs.declared.failure.Why.{Why}
 use Rattle.ld_infer.specs.declared.failure.Why.TheVariants as why
 use Rattle.ld_infer.specs.declared.failure.Failure.{Failure}
@@ -25,11 +27,11 @@ use Rattle.ld_reduce.specs.declared.stop.Stop.TheVariants as stop
 use Rattle.ld_infer.specs.declared.failure.PathStep.{PathStep}
 use Rattle.ld_infer.specs.declared.inference.Typed.{Typed}
 use Rattle.ld_infer.specs.declared.inference.BodyTyped.{BodyTyped}
-use Rattle.ld_infer.specs.declared.inference.FunctionTyped.{FunctionTyped}
+use Rattle.ld_infer.specs.declared.function.FunctionTyped.{FunctionTyped}
 use Rattle.ld_infer.specs.declared.theory.VariableTyped.{VariableTyped}
 use Rattle.ld_reduce.specs.Task.{Task, Gives, Fails, High, Nested, NotBuilt}
 use Rattle.ld_infer.specs.Account.{Account, Comes, RunsOut}
-use Rattle.ld_infer.specs.Reading.{Reason, NoType, NotSort, NotFunction, BoxBody, NotSame, Again, Refusal, Found, found, type_in}
+use Rattle.ld_infer.specs.Reading.{Reason, NoType, NotSort, NotFunction, BoxBody, NotSame, Again, Refusal, Found, found, type_in, exposed}
 use Rattle.ld_infer.specs.Standing.{Standing, known, env, here, without, KnowsSort}
 
 -- a failure of the code, with its terms as trees
@@ -74,6 +76,17 @@ pub record HasSort (old new : Standing) (t : Tree) (s : TermId × JudgeId) : Typ
   pub term : IsTermAt new.items s.0
   pub sort : IsSort (tree_at new.items s.0)
   pub judged : Knows (known new) s.1 (here old t (tree_at new.items s.0))
+
+-- the head form of a type, and an equality of the two over the entries that are there
+pub record IsExposed (old new : Standing) (type : Tree) (before after : Account) (r : TermId × EqId) : Type 0 where
+  pub term : IsTermAt new.items r.0
+  pub formed : IsWellFormed (env new) (count new.context) (tree_at new.items r.0)
+  pub gives : Comes (exposed (env old) type) (Gives (tree_at new.items r.0)) before after
+  pub equal : Equates (known new) r.1 type (tree_at new.items r.0) (length (env old))
+
+abbrev pub Exposes : (old new : Standing) → (type : Tree) → (before after : Account) → Result (TermId × EqId) Stop → Type 0
+Exposes old new type before after (Ok r) = IsExposed old new type before after r
+Exposes old new type before after (Err s) = StopsBy (exposed (env old) type) s before after
 
 -- the sort of the term is what the task gives
 pub record IsSorted (old new : Standing) (p : Task Refusal Tree) (t : TermId) (before after : Account) (s : TermId × JudgeId) : Type 0 where

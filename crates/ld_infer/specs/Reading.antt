@@ -9,6 +9,7 @@ use Rattle.ld_infer.specs.declared.failure.RuleName.{RuleName}
 use Rattle.ld_infer.specs.declared.failure.RuleName.TheVariants.{Form, Appl, Abst, Inst, InstPrim}
 use Rattle.ld_infer.specs.declared.failure.PathStep.{PathStep}
 use Rattle.ld_infer.specs.declared.failure.PathStep.TheVariants.{Dom, Ran, Fun, Arg, Body, Nth}
+use Rattle.ld_reduce.specs.Heads.{Expose, reaches}
 use Rattle.ld_reduce.specs.Task.{Task, gives, fails, nested, not_built, no_answer, step, formed, ◌>>=◌, ◌>>◌, faults_by}
 
 -- a rule and the number of a premise, for which a reading is asked
@@ -77,10 +78,11 @@ type_in Nil i = None
 type_in (ctx ▸ a) zero = Some (lift a 1 0)
 type_in (ctx ▸ a) (suc i) = lifted (type_in ctx i)
 
--- Head forms and the comparison of two trees are not built yet.
+-- the head form of a type, where a sort or a product is wanted
 abbrev pub exposed : Env → Tree → Task Refusal Tree
-exposed env t = not_built
+exposed env t = reaches (Expose env t)
 
+-- The comparison of two trees is not built yet.
 abbrev pub compared : Env → Tree → Tree → Task Apart (Unit {0})
 compared env t u = not_built
 
@@ -88,9 +90,8 @@ compared env t u = not_built
 abbrev pub refused : {X : Type 0} → (depth : ℕ) → Asked → Reason → Task Refusal X
 refused depth q reason = fails (refusal q depth reason)
 
--- Below, read is the reading of parts in a context of so many variables.
-module _ (env : Env) (depth : ℕ) (read : Asked → Tree → Task Refusal Found) where
-  -- the sort that a type is, or that it exposes
+-- the sort that a type is, or that it exposes
+module _ (env : Env) (depth : ℕ) where
   abbrev pub exposed_sort : (star : Bool) → Asked → (type : Tree) → Task Refusal Tree
   exposed_sort true q type = gives Star
   exposed_sort false q type = refused depth q (NotSort type)
@@ -99,8 +100,10 @@ module _ (env : Env) (depth : ℕ) (read : Asked → Tree → Task Refusal Found
   sort_in true q type = gives type
   sort_in false q type = exposed env type >>= λ t. exposed_sort (is_star t) q type
 
+-- Below, read is the reading of parts in a context of so many variables.
+module _ (env : Env) (depth : ℕ) (read : Asked → Tree → Task Refusal Found) where
   abbrev pub sort_of : Asked → Tree → Task Refusal Tree
-  sort_of q t = read q t >>= λ r. sort_in (is_star r.type || is_box r.type) q r.type
+  sort_of q t = read q t >>= λ r. sort_in env depth (is_star r.type || is_box r.type) q r.type
 
   -- typing again: one step, and then the sort
   abbrev pub again : Asked → Tree → Task Refusal (Unit {0})
@@ -177,8 +180,12 @@ module _ (env : Env) (read : Trees → Asked → Tree → Task Refusal Found) (c
       within Dom (sort_under ctx (Abst, 1) a) >>
       (body_reading a m >>= λ r. formed (Pi a r.type) >>= λ t. gives (found t true))
 
+  -- the product that the type of an application's function is, or that it exposes
+  abbrev pub product_read : (f : Tree) → Task Refusal (Tree × Tree)
+  product_read f = read ctx (Appl, 1) f >>= λ r. product_in env (count ctx) (read ctx) (product_of r.type) (Appl, 1) r.type
+
   abbrev pub function_reading : (f : Tree) → Task Refusal (Tree × Tree)
-  function_reading f = within Fun (read ctx (Appl, 1) f >>= λ r. product_in env (count ctx) (read ctx) (product_of r.type) (Appl, 1) r.type)
+  function_reading f = within Fun (product_read f)
 
   abbrev pub application_reading : (f u : Tree) → Task Refusal Found
   application_reading f u =

@@ -44,6 +44,11 @@ pub record KnowsSort (s : Standing) (j : JudgeId) (t : Tree) : Type 0 where
   pub is : IsSort sort
   pub knows : Knows (known s) j (here s t sort)
 
+-- the number is that of a judgement of a term and this type
+pub record KnowsType (s : Standing) (j : JudgeId) (type : Tree) : Type 0 where
+  pub term : Tree
+  pub knows : Knows (known s) j (here s term type)
+
 -- One variable is added at the end of the context.
 pub record Enters (old new : Standing) (a : Tree) : Type 0 where
   pub items : Extends old.items new.items

@@ -91,11 +91,11 @@ impl Path {
 pub enum Why {
     /// The part is `box`, which has no type.
     NoType,
-    /// The type found for the part is no sort.
+    /// The type found for the part is no sort, and doesn't lead to `*` at its head.
     NotSort {
         found: TermId,
     },
-    /// The type found for the part is no product.
+    /// The type found for the part is no product, and doesn't lead to one at its head.
     NotFunction {
         found: TermId,
     },
@@ -132,7 +132,7 @@ pub enum InferFault {
     Refused(Failure),
     #[error("the check stops")]
     Stop(Stop),
-    /// A head form or a comparison is wanted.
+    /// A comparison of two types that aren't equal trees is wanted.
     #[error("the form is not built")]
     NotBuilt,
 }

@@ -2,13 +2,15 @@
 ghost use Rattle.std.specs.Prelude.{◌≡◌, ◌<◌, ◌≤◌, ◌+◌, ◌^◌, is_some, IfSome};
 ghost use Rattle.ld_terms.specs.Tree.{Tree, Trees, App, Lam, Pi, ◌▸◌, count};
 ghost use Rattle.ld_terms.specs.Bank.{tree_at, IsTermAt};
-ghost use Rattle.ld_infer.specs.Reading.{Types, SortOf, part_reading, within as part, product_reading, abstraction_reading, body_reading, application_reading, function_reading, argument_reading, again, again_unless};
+ghost use Rattle.ld_infer.specs.Reading.{Types, SortOf, part_reading, within as part, product_reading, abstraction_reading, body_reading, application_reading, argument_reading, again, again_unless};
 ghost use Rattle.ld_infer.specs.Standing.{env, Continues, KnowsSort};
-ghost use Rattle.ld_infer.specs.Infers.{Infers, InfersSort, TypesAgain, InfersBody, InfersFunction, Suits, IsReadable};
+ghost use Rattle.ld_infer.specs.Infers.{Infers, InfersSort, TypesAgain, InfersBody, Suits, IsReadable};
 ghost use Rattle.ld_infer.specs.declared.failure.RuleName.TheVariants as rule;
 ghost use Rattle.ld_infer.specs.declared.failure.PathStep.TheVariants.{Dom};
 
+use crate::exposing::exposed_sort;
 use crate::failure::{InferFault, PathStep, RuleName, Why};
+use crate::function::function_type;
 use crate::instance::instance;
 use crate::job::Job;
 use crate::leaf::{sort_of_sort, star, variable};
@@ -39,18 +41,10 @@ struct BodyTyped {
     sort: (TermId, JudgeId),
 }
 
-// The domain and the range of a function's type, with a judgement of the function and its type.
-#[derive(Clone, Copy, Debug)]
-struct FunctionTyped {
-    judge: JudgeId,
-    domain: TermId,
-    range: TermId,
-}
-
 /// The type of a term in the theory's context, by the rules for its form. `asked` is the rule and the number of the
 /// premise for which the type is wanted: they are reported where the term is `box`. `nest` is the nesting of this reading,
 /// 1 for a whole term; readings nested deeper than 1,000 are stopped. A fault is a premise of a rule that fails, a stop, or
-/// that a form isn't built: a function whose type is no product as it stands, or an argument of another type.
+/// that a form isn't built: the comparison of an argument's type with another.
 #[cycle(infer)]
 pub fn infer(
     alloc: Global,
@@ -82,8 +76,8 @@ pub fn infer(
     }
 }
 
-/// The sort of a term, with a judgement of the term and the sort. It faults as [`infer`] does, and as a form that isn't
-/// built where the term's type isn't `*` or `box` as it stands.
+/// The sort of a term, with a judgement of the term and the sort. A type that isn't `*` or `box` as it stands is reduced at
+/// its head. It faults as [`infer`] does, and where that doesn't lead to `*`.
 #[cycle(infer)]
 pub fn sort_of(
     alloc: Global,
@@ -103,13 +97,13 @@ pub fn sort_of(
     let typed = infer(alloc, theory, asked, t, nest, job)?;
     match theory.bank().node(typed.of) {
         Node::Star | Node::Box_ => Ok((typed.of, typed.judge)),
-        _ => Err(InferFault::NotBuilt),
+        _ => exposed_sort(alloc, theory, asked, t, typed, job),
     }
 }
 
 // Types a type again: one step, and then its sort.
 #[cycle(infer)]
-fn type_again(
+pub(crate) fn type_again(
     alloc: Global,
     theory: &mut Theory,
     asked: (RuleName, u32),
@@ -329,37 +323,6 @@ fn application(
         judge,
         of_judge: None,
     })
-}
-
-// The product that the function of an application has as its type.
-#[cycle(infer)]
-fn function_type(
-    alloc: Global,
-    theory: &mut Theory,
-    f: TermId,
-    nest: u32,
-    job: &mut Job,
-) -> Result<FunctionTyped, InferFault>
-    requires term { IsReadable theory.old f }
-    requires nest { nest ≤ 1000 }
-    requires room { count theory.old.context + 1000 < 2 ^ 32 + nest }
-    ensures answer { InfersFunction theory.old theory.new
-        (function_reading (env theory.old) (part_reading nest (env theory.old)) theory.old.context (tree_at theory.old.items f)) f job.old job.new result }
-    ensures continues { Continues theory.old theory.new }
-    ensures most { job.new.left ≤ job.old.left }
-{
-    let typed = match infer(alloc, theory, (RuleName::Appl, 1), f, nest + 1, job) {
-        Ok(typed) => typed,
-        Err(fault) => return Err(within(PathStep::Fun, fault)),
-    };
-    match theory.bank().node(typed.of) {
-        Node::Pi(domain, range) => Ok(FunctionTyped {
-            judge: typed.judge,
-            domain,
-            range,
-        }),
-        _ => Err(InferFault::NotBuilt),
-    }
 }
 
 // The judgement of an argument and the type that is wanted of it. The argument stands at the step, and is read for the rule

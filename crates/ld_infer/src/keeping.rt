@@ -1,19 +1,31 @@
-//! How a theory keeps judgements of its context as entries.
+//! How a theory keeps judgements of its context, also as entries.
 ghost use Rattle.std.specs.Prelude.{◌≡◌, ◌<◌, ◌+◌, ◌^◌, length, IfOk, OnOk, OnErr};
 ghost use Rattle.ld_terms.specs.Tree.{Star};
 ghost use Rattle.ld_terms.specs.Bank.{tree_at, IsTermAt};
 ghost use Rattle.ld_terms.specs.Known.{line_entry, primitive_entry, IsFree};
 ghost use Rattle.ld_record.specs.Growth.{Knows};
-ghost use Rattle.ld_infer.specs.Standing.{known, env, here, KnowsSort, AddsEntry, Goes};
+ghost use Rattle.ld_record.specs.Follows.{Follows};
+ghost use Rattle.ld_infer.specs.Standing.{known, env, here, KnowsSort, AddsEntry, Continues, Goes};
 
 use crate::theory::Theory;
 use fb_base::NoMemory;
 use ld_env::Entry;
-use ld_record::JudgeId;
+use ld_record::{JudgeId, Step};
 use ld_terms::TermId;
 use std::alloc::Global;
 
 impl Theory {
+    /// Keeps a judgement of the context, over all entries, that follows by a rule.
+    pub fn conclude(&mut self, term: TermId, of: TermId, step: Step) -> Result<JudgeId, NoMemory>
+        requires term { IsTermAt self.old.items term }
+        requires of { IsTermAt self.old.items of }
+        requires follows { Follows (known self.old) (here self.old (tree_at self.old.items term) (tree_at self.old.items of)) step }
+        ensures number { IfOk result (λ j. Knows (known self.new) j (here self.old (tree_at self.old.items term) (tree_at self.old.items of))) }
+        ensures continues { Continues self.old self.new }
+    {
+        self.conclude_without(0, term, of, step)
+    }
+
     /// Keeps a judgement of the context as the entry of a line under a name that is free. The context's types are the
     /// entry's parameters.
     pub fn keep_line(

@@ -2,7 +2,9 @@
 //! definitions (docs/calculus.md; Nederpelt and Geuvers, *Type Theory and Formal Proof*, chapters 8 to 11).
 #![tactic(auto)]
 
+mod exposing;
 mod failure;
+mod function;
 mod inference;
 mod instance;
 mod job;

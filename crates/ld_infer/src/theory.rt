@@ -6,9 +6,12 @@ ghost use Rattle.ld_terms.specs.Known.{nothing, judgement_at};
 ghost use Rattle.ld_terms.specs.Named.{IsWellFormed};
 ghost use Rattle.ld_env.specs.Entries.{entry_of, env_of, IsLiveEntry, AreLive};
 
+use crate::inference::Typed;
+use crate::job::Job;
 use fb_base::{NoMemory, Text};
 use ld_env::{Entry, Env};
-use ld_record::{CtxId, Deriv, Judge, JudgeId, Step};
+use ld_record::{CtxId, Deriv, EqId, Judge, JudgeId, Step};
+use ld_reduce::Stop;
 use ld_terms::{Bank, Node, TermFault, TermId, Terms};
 use std::alloc::Global;
 use std::marker::Model;
@@ -73,7 +76,8 @@ impl Theory {
     ghost use Rattle.ld_record.specs.Kept.{IsSound, FitsEntry, entry_by};
     ghost use Rattle.ld_record.specs.Growth.{Knows, Adds};
     ghost use Rattle.ld_record.specs.Follows.{Follows};
-    ghost use Rattle.ld_infer.specs.Standing.{Standing, known, env, here, Continues, KnowsSort, Enters, AddsEntry, AddsFlag, Goes, without, without_last};
+    ghost use Rattle.ld_infer.specs.Standing.{Standing, known, env, here, Continues, KnowsSort, KnowsType, Enters, AddsEntry, AddsFlag, Goes, without, without_last};
+    ghost use Rattle.ld_infer.specs.Infers.{Exposes};
     ghost use Rattle.ld_infer.specs.Variables.{judged_in, EndsWith};
 
     /// The empty environment and context.
@@ -219,18 +223,18 @@ impl Theory {
         Ok(star)
     }
 
-    /// Keeps a judgement of the context, over all entries, that follows by a rule.
-    pub fn conclude(&mut self, term: TermId, of: TermId, step: Step) -> Result<JudgeId, NoMemory>
-        requires term { IsTermAt self.old.items term }
-        requires of { IsTermAt self.old.items of }
-        requires follows { Follows (known self.old) (here self.old (tree_at self.old.items term) (tree_at self.old.items of)) step }
-        ensures number { IfOk result (λ j. Knows (known self.new) j (here self.old (tree_at self.old.items term) (tree_at self.old.items of))) }
+    // The head form of a type that was found, with an equality of the two.
+    pub(crate) fn expose(&mut self, typed: Typed, job: &mut Job) -> Result<(TermId, EqId), Stop>
+        requires of { IsTermAt self.old.items typed.of }
+        requires judge { KnowsType self.old typed.judge (tree_at self.old.items typed.of) }
+        ensures answer { Exposes self.old self.new (tree_at self.old.items typed.of) job.old job.new result }
         ensures continues { Continues self.old self.new }
+        ensures most { job.new.left ≤ job.old.left }
     {
-        self.conclude_without(0, term, of, step)
+        job.expose(&mut self.bank, &self.env, &mut self.deriv, typed.of)
     }
 
-    // The same in the context without so many of its last variables.
+    // Keeps a judgement of the context without so many of its last variables, over all entries, that follows by a rule.
     pub(crate) fn conclude_without(
         &mut self,
         out: u32,

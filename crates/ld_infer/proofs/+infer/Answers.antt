@@ -1,4 +1,4 @@
-use Rattle.std.proofs.Common.{rules, ◌≡◌, ◌+◌, ◌-◌, ◌++◌, ◌∷◌, [], ℕ, List, length, Bool, Result, Err, ap, sym, ◌∙◌, subst, arith}
+use Rattle.std.proofs.Common.{rules, ◌≡◌, ◌+◌, ◌-◌, ◌++◌, ◌∷◌, [], ℕ, List, length, Bool, None, Result, Err, ap, sym, ◌∙◌, subst, arith}
 use Rattle.std.specs.Prelude.{is_some}
 use Rattle.std.proofs.lemmas.Bool.{false≢true}
 use Rattle.std.proofs.lemmas.Grind.{common_steps}
@@ -14,23 +14,24 @@ use Rattle.ld_terms.specs.declared.bank.TermFault.TheVariants as term
 use Rattle.ld_record.specs.declared.record.JudgeId.{JudgeId}
 use Rattle.ld_record.specs.Follows.{entry_at}
 use Rattle.ld_infer.specs.declared.failure.RuleName.TheVariants as rule
-use Rattle.ld_infer.specs.declared.failure.PathStep.TheVariants.{Dom}
+use Rattle.ld_infer.specs.declared.failure.PathStep.TheVariants.{Dom, Fun}
 use Rattle.ld_infer.specs.declared.failure.InferFault.{InferFault}
 use Rattle.ld_infer.specs.declared.inference.Typed.{Typed}
 use Rattle.ld_reduce.specs.Task.{Gives}
 use Rattle.ld_infer.specs.Account.{Comes}
-use Rattle.ld_infer.specs.Reading.{Types, SortOf, read_within, part_reading, again_unless, refused, refusal, NoType, BoxBody, Again, found, product_reading, abstraction_reading, application_reading, body_reading, next_argument, arguments}
+use Rattle.ld_infer.specs.Reading.{Types, SortOf, read_within, part_reading, again_unless, refused, refusal, NoType, BoxBody, Again, found, product_reading, abstraction_reading, application_reading, body_reading, product_in, product_read, next_argument, arguments}
 use Rattle.ld_infer.specs.Standing.{env, without}
-use Rattle.ld_infer.specs.Infers.{Infers, InfersSort, TypesAgain, InfersBody, Suits, JudgesArguments, AreJudged, ArePrefixes, IsInstanceStep, Stops, IsRefusedBy, IsToldAs}
+use Rattle.ld_infer.specs.Infers.{Infers, InfersSort, TypesAgain, InfersBody, InfersFunction, Suits, JudgesArguments, AreJudged, ArePrefixes, IsInstanceStep, Stops, IsRefusedBy, IsToldAs}
 use Rattle.ld_infer.proofs.Stopping.{stops_within, gives_within, refused_by}
 use Rattle.ld_infer.proofs.Going.{continues_trans, term_stays, tree_stays}
 use Rattle.ld_infer.proofs.Nodes.{node_item, node_tree, sort_node, sort_tested, no_sort_node, no_box_node, no_product_node, same_items}
-use Rattle.ld_infer.proofs.Sorts.{at_fault, fails_now, reads, sort_given, sort_not_built, sort_stops, again_given, again_stops}
-use Rattle.ld_infer.proofs.Parting.{function_stops, function_not_built, argument_stops, argument_not_built}
+use Rattle.ld_infer.proofs.Sorts.{at_fault, fails_now, reads, sort_given, sort_stops, again_given, again_stops}
+use Rattle.ld_infer.proofs.Parting.{product_read_stops, argument_stops, argument_not_built}
 use Rattle.ld_infer.proofs.Binding.{product_stops_domain, abstraction_stops_domain, body_stops, body_box}
 use Rattle.ld_infer.proofs.Applying.{application_stops_function}
 use Rattle.ld_infer.proofs.Inferring.{function_typed, argument_typed, application_refused, application_high, application_typed, sort_come, held_term, held_small, body_typed, body_refused, type_well_formed}
 use Rattle.ld_infer.proofs.Around.{IsAround, around, range_refused, product_typed, body_stopped, abstraction_high, abstraction_typed, abstraction_follows, outer_tree, inner_context, sort_outside}
+use Rattle.ld_infer.proofs.Exposure.{sort_later, product_later, product_stopped, product_reached, product_not_reached, product_expose_stopped, conv_here}
 use Rattle.ld_infer.proofs.Prefixing.{cons_parts}
 use Rattle.ld_infer.proofs.Instances.{instance_parts, entry_here, instance_task, instance_refused, instance_high, instance_ready, instance_typed}
 use Rattle.ld_infer.proofs.Judging.{next_high, suits_next, but, AreBegun, begun_none, next_found, turn_stops, turn_more}
@@ -107,19 +108,15 @@ inference::sort_of-returns-in-Star-clause-answer t c =
           c.args.job.now c.infer.new.job h.gives (sort_tested (tree_at b.items x.of) sort);
     }
 
-pub inference::sort_of-returns-in_default : goal.inference::sort_of-returns-in_default
-inference::sort_of-returns-in_default t c =
+pub inference::sort_of-returns-in_default-clause-answer : goal.inference::sort_of-returns-in_default-clause-answer
+inference::sort_of-returns-in_default-clause-answer t c =
     let a = c.args.theory.now in
     let b = c.infer.new.theory in
     let x = c.in_ok-typed.typed in
     let h = c.in_ok-typed.ensures.answer in
-    record {
-      answer = sort_not_built (env a) (count a.context) (read_within (1001 - c.args.nest) (env a) a.context) c.args.asked (tree_at a.items c.args.t) (tree_at b.items x.of) (is_some x.of_judge)
-          c.args.job.now c.infer.new.job h.gives
-          (no_sort_node b.items c.node.result x.of c.in_default.not-Star c.in_default.not-Box_ h.term (node_item c.bank.result.now b.items c.node.result x.of c.bank.ensures c.node.ensures.tree));
-      continues = c.infer.ensures.continues;
-      most = c.infer.ensures.most;
-    }
+    sort_later a b c.exposed_sort.new.theory c.args.t x c.args.job.now c.infer.new.job c.exposed_sort.new.job c.infer.ensures.continues c.requires.term.0 c.args.nest c.args.asked c.exposed_sort.result h
+    (no_sort_node b.items c.node.result x.of c.in_default.not-Star c.in_default.not-Box_ h.term (node_item c.bank.result.now b.items c.node.result x.of c.bank.ensures c.node.ensures.tree))
+    c.exposed_sort.ensures.answer
 
 pub inference::domain_sort-returns-in-Ok-clause-answer : goal.inference::domain_sort-returns-in-Ok-clause-answer
 inference::domain_sort-returns-in-Ok-clause-answer t c = let h = c.in-Ok.ensures.answer in record { has = h.has; gives = gives_within Dom _ _ _ _ h.gives }
@@ -158,31 +155,93 @@ inference::sort_of_type-returns-in-None-clause-answer t c =
     subst P (sym (ap is_some c.in-None.is)) c.type_again.ensures.answer
 
 -- The function and the argument of an application.
-pub inference::function_type-returns-in-Err-clause-answer : goal.inference::function_type-returns-in-Err-clause-answer
-inference::function_type-returns-in-Err-clause-answer t c =
-    let a = c.args.theory.now in
-    function_stops (env a) (part_reading c.args.nest (env a)) a.context c.infer.new.theory.items (tree_at a.items c.args.f) c.in-Err.fault c.within.result c.args.job.now c.infer.new.job c.in-Err.ensures.answer c.within.ensures
+pub function::function_type-returns-in-Ok-clause-answer : goal.function::function_type-returns-in-Ok-clause-answer
+function::function_type-returns-in-Ok-clause-answer t c =
+    let h = c.in-Ok.ensures.answer in
+    record { domain = h.domain; range = h.range; gives = gives_within Fun _ _ _ _ h.gives; judged = h.judged }
 
-pub inference::function_type-returns-in-Pi-clause-answer : goal.inference::function_type-returns-in-Pi-clause-answer
-inference::function_type-returns-in-Pi-clause-answer t c =
+pub function::function_type-returns-in-Err-clause-answer : goal.function::function_type-returns-in-Err-clause-answer
+function::function_type-returns-in-Err-clause-answer t c = stops_within c.product_type.new.theory.items Fun _ c.in-Err.fault c.within.result _ _ c.in-Err.ensures.answer c.within.ensures
+
+pub function::product_type-returns-in_err-typed-clause-answer : goal.function::product_type-returns-in_err-typed-clause-answer
+function::product_type-returns-in_err-typed-clause-answer t c =
+    let a = c.args.theory.now in
+    let b = c.infer.new.theory in
+    let p = err_from_is_err_and c.from_residual.result c.from_residual.ensures.1 in
+    at_fault (λ r. InfersFunction a b (product_read (env a) (part_reading c.args.nest (env a)) a.context (tree_at a.items c.args.f)) c.args.f c.args.job.now c.infer.new.job r)
+    c.from_residual.result c.in_err-typed.field-0.0 p.0 p.1 p.2
+    (product_read_stops (env a) (part_reading c.args.nest (env a)) a.context b.items (tree_at a.items c.args.f) c.in_err-typed.field-0.0 c.args.job.now c.infer.new.job c.in_err-typed.ensures.answer)
+
+pub function::product_type-returns-in-Pi-clause-answer : goal.function::product_type-returns-in-Pi-clause-answer
+function::product_type-returns-in-Pi-clause-answer t c =
     let b = c.infer.new.theory in
     let P : List Item → Type 0 = λ xs. IsTermAt xs c.in-Pi.domain × IsTermAt xs c.in-Pi.range in
     let parts = subst P c.bank.ensures c.in-Pi.ensures.parts in
-    function_typed c.args.theory.now b c.args.nest c.args.f c.in-Ok.typed c.in-Pi.domain c.in-Pi.range c.args.job.now c.infer.new.job c.in-Ok.ensures.answer parts.0 parts.1
-    (node_tree c.bank.result.now b.items (node.Pi c.in-Pi.domain c.in-Pi.range) c.in-Ok.typed.of c.bank.ensures c.in-Pi.ensures.tree)
+    function_typed c.args.theory.now b c.args.nest c.args.f c.in_ok-typed.typed c.in-Pi.domain c.in-Pi.range c.args.job.now c.infer.new.job c.in_ok-typed.ensures.answer parts.0 parts.1
+    (node_tree c.bank.result.now b.items (node.Pi c.in-Pi.domain c.in-Pi.range) c.in_ok-typed.typed.of c.bank.ensures c.in-Pi.ensures.tree)
 
-pub inference::function_type-returns-in_default : goal.inference::function_type-returns-in_default
-inference::function_type-returns-in_default t c =
+pub function::product_type-returns-in_default-clause-answer : goal.function::product_type-returns-in_default-clause-answer
+function::product_type-returns-in_default-clause-answer t c =
     let a = c.args.theory.now in
     let b = c.infer.new.theory in
-    let x = c.in-Ok.typed in
-    let h = c.in-Ok.ensures.answer in
-    record {
-      answer = function_not_built (env a) (part_reading c.args.nest (env a)) a.context (tree_at a.items c.args.f) (tree_at b.items x.of) (is_some x.of_judge) c.args.job.now c.infer.new.job h.gives
-          (no_product_node b.items c.node.result x.of c.in_default.not-Pi h.term (node_item c.bank.result.now b.items c.node.result x.of c.bank.ensures c.node.ensures.tree));
-      continues = c.infer.ensures.continues;
-      most = c.infer.ensures.most;
-    }
+    let x = c.in_ok-typed.typed in
+    let h = c.in_ok-typed.ensures.answer in
+    product_later a b c.exposed_product.new.theory c.args.f x c.args.job.now c.infer.new.job c.exposed_product.new.job c.infer.ensures.continues c.requires.term.0 c.args.nest c.exposed_product.result h
+    (no_product_node b.items c.node.result x.of c.in_default.not-Pi h.term (node_item c.bank.result.now b.items c.node.result x.of c.bank.ensures c.node.ensures.tree))
+    c.exposed_product.ensures.answer
+
+pub function::exposed_product-returns-in_err-product-clause-answer : goal.function::exposed_product-returns-in_err-product-clause-answer
+function::exposed_product-returns-in_err-product-clause-answer t c =
+    let a = c.args.theory.now in
+    let p = err_from_is_err_and c.from_residual.result c.from_residual.ensures.1 in
+    product_expose_stopped a c.expose.new.self c.args.nest c.args.f (tree_at a.items c.args.typed.of) c.in_err-product.field-0.0 p.0 c.from_residual.result c.args.job.now c.expose.new.job p.1 p.2
+    c.in_err-product.ensures.answer
+
+pub function::exposed_product-returns-in_err-sort-in-Pi-clause-answer : goal.function::exposed_product-returns-in_err-sort-in-Pi-clause-answer
+function::exposed_product-returns-in_err-sort-in-Pi-clause-answer t c =
+    let a = c.args.theory.now in
+    let b = c.expose.new.self in
+    let d = c.type_again.new.theory in
+    let type = tree_at a.items c.args.typed.of in
+    let p = err_from_is_err_and c.from_residual-in_err-sort-in-Pi.result c.from_residual-in_err-sort-in-Pi.ensures.1 in
+    at_fault (λ r. InfersFunction a d (product_in (env a) (count a.context) (part_reading c.args.nest (env a) a.context) None (rule.Appl, 1) type) c.args.f c.args.job.now c.type_again.new.job r)
+    c.from_residual-in_err-sort-in-Pi.result c.in_err-sort-in-Pi.field-0.0 p.0 p.1 p.2
+    (product_stopped a b d.items c.args.nest type (tree_at b.items c.in_ok-product.product) (tree_at b.items c.in-Pi.domain) (tree_at b.items c.in-Pi.range) c.in_err-sort-in-Pi.field-0.0
+    c.args.job.now c.expose.new.job c.type_again.new.job c.expose.ensures.continues c.in_ok-product.ensures.answer.gives
+    (node_tree c.bank.result.now b.items (node.Pi c.in-Pi.domain c.in-Pi.range) c.in_ok-product.product c.bank.ensures c.in-Pi.ensures.tree) c.in_err-sort-in-Pi.ensures.answer)
+
+pub function::exposed_product-returns-in_err-sort-in-Pi-clause-continues : goal.function::exposed_product-returns-in_err-sort-in-Pi-clause-continues
+function::exposed_product-returns-in_err-sort-in-Pi-clause-continues t c = continues_trans _ _ _ c.expose.ensures.continues c.type_again.ensures.continues
+
+pub function::exposed_product-conclude-requires-clause-follows : goal.function::exposed_product-conclude-requires-clause-follows
+function::exposed_product-conclude-requires-clause-follows t c =
+    let h = c.in_ok-sort-in-Pi.ensures.answer in
+    conv_here c.args.theory.now c.expose.new.self c.type_again.new.theory c.args.typed.judge c.in_ok-sort-in-Pi.sort.1 c.in_ok-product.equal c.args.f c.in_ok-product.product _ _
+    c.expose.ensures.continues c.type_again.ensures.continues c.requires.term c.in_ok-product.ensures.answer.term c.requires.judge c.in_ok-product.ensures.answer.equal h.has.judged h.has.sort
+
+pub function::exposed_product-returns-in_err-judge-in-Pi-clause-continues : goal.function::exposed_product-returns-in_err-judge-in-Pi-clause-continues
+function::exposed_product-returns-in_err-judge-in-Pi-clause-continues t c = continues_trans _ _ _ (continues_trans _ _ _ c.expose.ensures.continues c.type_again.ensures.continues) c.conclude.ensures.continues
+
+pub function::exposed_product-returns-in_ok-judge-in-Pi-clause-answer : goal.function::exposed_product-returns-in_ok-judge-in-Pi-clause-answer
+function::exposed_product-returns-in_ok-judge-in-Pi-clause-answer t c =
+    let b = c.expose.new.self in
+    let P : List Item → Type 0 = λ xs. IsTermAt xs c.in-Pi.domain × IsTermAt xs c.in-Pi.range in
+    let parts = subst P c.bank.ensures c.in-Pi.ensures.parts in
+    product_reached c.args.theory.now b c.type_again.new.theory c.conclude.new.self c.args.nest c.args.f c.in_ok-product.product c.in-Pi.domain c.in-Pi.range _ c.in_ok-sort-in-Pi.sort c.in_ok-judge-in-Pi.judge
+    c.args.job.now c.expose.new.job c.type_again.new.job c.expose.ensures.continues c.type_again.ensures.continues c.conclude.ensures.continues c.requires.term c.in_ok-product.ensures.answer.term parts.0 parts.1
+    c.in_ok-product.ensures.answer.gives (node_tree c.bank.result.now b.items (node.Pi c.in-Pi.domain c.in-Pi.range) c.in_ok-product.product c.bank.ensures c.in-Pi.ensures.tree)
+    c.in_ok-sort-in-Pi.ensures.answer c.in_ok-judge-in-Pi.ensures.number
+
+pub function::exposed_product-returns-in_ok-judge-in-Pi-clause-continues : goal.function::exposed_product-returns-in_ok-judge-in-Pi-clause-continues
+function::exposed_product-returns-in_ok-judge-in-Pi-clause-continues t c = continues_trans _ _ _ (continues_trans _ _ _ c.expose.ensures.continues c.type_again.ensures.continues) c.conclude.ensures.continues
+
+pub function::exposed_product-returns-in_default-clause-answer : goal.function::exposed_product-returns-in_default-clause-answer
+function::exposed_product-returns-in_default-clause-answer t c =
+    let b = c.expose.new.self in
+    product_not_reached c.args.theory.now b c.args.nest c.args.typed.of (tree_at b.items c.in_ok-product.product) c.refusal.result c.args.job.now c.expose.new.job c.expose.ensures.continues c.requires.of
+    c.in_ok-product.ensures.answer.gives
+    (no_product_node b.items c.node.result c.in_ok-product.product c.in_default.not-Pi c.in_ok-product.ensures.answer.term (node_item c.bank.result.now b.items c.node.result c.in_ok-product.product c.bank.ensures c.node.ensures.tree))
+    (c.refusal.ensures b.items)
 
 pub inference::argument_judgement-returns-in-Err-clause-answer : goal.inference::argument_judgement-returns-in-Err-clause-answer
 inference::argument_judgement-returns-in-Err-clause-answer t c =

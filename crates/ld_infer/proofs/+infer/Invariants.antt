@@ -29,8 +29,14 @@ decreases-inference::body_type l = 8 * (1001 - l.nest) + 3
 abbrev pub decreases-inference::application : goal.decreases-inference::application
 decreases-inference::application l = 8 * (1001 - l.nest) + 5
 
-abbrev pub decreases-inference::function_type : goal.decreases-inference::function_type
-decreases-inference::function_type l = 8 * (1001 - l.nest) + 3
+abbrev pub decreases-function::function_type : goal.decreases-function::function_type
+decreases-function::function_type l = 8 * (1001 - l.nest) + 4
+
+abbrev pub decreases-function::product_type : goal.decreases-function::product_type
+decreases-function::product_type l = 8 * (1001 - l.nest) + 3
+
+abbrev pub decreases-function::exposed_product : goal.decreases-function::exposed_product
+decreases-function::exposed_product l = 8 * (1001 - l.nest) + 2
 
 abbrev pub decreases-inference::argument_judgement : goal.decreases-inference::argument_judgement
 decreases-inference::argument_judgement l = 8 * (1001 - l.nest) + 2

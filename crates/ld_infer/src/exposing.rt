@@ -1,0 +1,46 @@
+//! The sort that a type exposes.
+ghost use Rattle.std.specs.Prelude.{◌<◌, ◌≤◌, ◌^◌, false};
+ghost use Rattle.ld_terms.specs.Tree.{count};
+ghost use Rattle.ld_terms.specs.Bank.{tree_at, IsTermAt};
+ghost use Rattle.ld_record.specs.Growth.{Knows};
+ghost use Rattle.ld_infer.specs.Reading.{sort_in};
+ghost use Rattle.ld_infer.specs.Standing.{known, env, here, Continues};
+ghost use Rattle.ld_infer.specs.Infers.{InfersSort};
+
+use crate::failure::{InferFault, RuleName, Why};
+use crate::inference::Typed;
+use crate::job::Job;
+use crate::refusal::refusal;
+use crate::theory::Theory;
+use ld_record::{JudgeId, Step};
+use ld_terms::{Node, TermId};
+use std::alloc::Global;
+
+// The sort of a term whose type is no sort as it stands: the type has to expose `*`, and the term is led to it.
+pub(crate) fn exposed_sort(
+    alloc: Global,
+    theory: &mut Theory,
+    asked: (RuleName, u32),
+    t: TermId,
+    typed: Typed,
+    job: &mut Job,
+) -> Result<(TermId, JudgeId), InferFault>
+    requires term { IsTermAt theory.old.items t }
+    requires of { IsTermAt theory.old.items typed.of }
+    requires judge { Knows (known theory.old) typed.judge (here theory.old (tree_at theory.old.items t) (tree_at theory.old.items typed.of)) }
+    requires room { count theory.old.context < 2 ^ 32 }
+    ensures answer { InfersSort theory.old theory.new
+        (sort_in (env theory.old) (count theory.old.context) false asked (tree_at theory.old.items typed.of)) t job.old job.new result }
+    ensures continues { Continues theory.old theory.new }
+    ensures most { job.new.left ≤ job.old.left }
+{
+    let (sort, equal) = theory.expose(typed, job)?;
+    match theory.bank().node(sort) {
+        Node::Star => {
+            let star = theory.star_judgement()?;
+            let judge = theory.conclude(t, sort, Step::Conv(typed.judge, star, equal))?;
+            Ok((sort, judge))
+        }
+        _ => Err(refusal(alloc, theory, asked, Why::NotSort { found: typed.of })),
+    }
+}
