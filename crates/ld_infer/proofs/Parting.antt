@@ -1,5 +1,5 @@
 -- The function of an application, and arguments, from what is answered for them.
-use Rattle.std.proofs.Common.{◌≡◌, ℕ, Bool, true, false, List, Option, Some, None, ap, sym, subst}
+use Rattle.std.proofs.Common.{◌≡◌, ℕ, Bool, true, false, List, Option, Some, ap, sym, subst}
 use Rattle.ld_terms.specs.Tree.{Tree, Trees, Pi, count}
 use Rattle.ld_terms.specs.Item.{Item}
 use Rattle.ld_terms.specs.Entry.{Env}

@@ -8,9 +8,9 @@ use Rattle.ld_infer.specs.declared.failure.InferFault.{InferFault}
 use Rattle.ld_infer.specs.declared.failure.InferFault.TheVariants as fault
 use Rattle.ld_reduce.specs.declared.stop.Stop.{Stop}
 use Rattle.ld_reduce.specs.declared.stop.Stop.TheVariants as stop
-use Rattle.ld_reduce.specs.Task.{Pairs, Task, Gives, Fails, High, Nested, NotBuilt, Answers, gives, fails, not_built, step, Ends, ◌>>=◌}
+use Rattle.ld_reduce.specs.Task.{Pairs, Task, Gives, Fails, High, Nested, NotBuilt, Answers, gives, fails, not_built, step, Ends}
 use Rattle.ld_infer.specs.Account.{Account, Takes, Comes}
-use Rattle.ld_infer.specs.Reading.{Asked, Again, Refusal, refusal, Found, found, exposed_sort, sort_in, sort_of, again, reading, read_within, Types, part_reading}
+use Rattle.ld_infer.specs.Reading.{Asked, Again, Refusal, refusal, Found, found, sort_in, sort_of, again, reading, read_within, Types, part_reading}
 use Rattle.ld_infer.specs.Infers.{Stops, StopsBy, IsToldAs, refusal_of}
 use Rattle.ld_reduce.proofs.Tasks.{gives_answers, fails_answers, not_built_answers, step_answers}
 use Rattle.ld_infer.proofs.Accounts.{comes_at_once, comes_then, comes_ended, comes_faulted, runs_out_first, runs_out_then, runs_out_faulted}
