@@ -58,33 +58,33 @@ faults_once g p hp K K1 K2 r1 r2 n1 n2 (s, ps, e) (s', ps', e') =
     let q = hp K K1 K2 s s' n1 n2 ps ps' in record { answer = e ∙ ap (with_fault g) q.answer ∙ sym e'; known = q.known; steps = q.steps }
 
 -- what goes on after a fault: the answer itself where it is none
-data Passes {E F X : Type 0} : Answer E X → Answer F X → Type 0 where
+pub data Passes {E F X : Type 0} : Answer E X → Answer F X → Type 0 where
   value_passes : {x : X} → Passes (Gives x) (Gives x)
   high_passes : Passes High High
   nesting_passes : Passes Nested Nested
   unbuilt_passes : Passes NotBuilt NotBuilt
 
-passes_agree : {E F X : Type 0} {s : Answer E X} {r1 r2 : Answer F X} → Passes s r1 → Passes s r2 → r1 ≡ r2
+pub passes_agree : {E F X : Type 0} {s : Answer E X} {r1 r2 : Answer F X} → Passes s r1 → Passes s r2 → r1 ≡ r2
 passes_agree value_passes value_passes = refl
 passes_agree high_passes high_passes = refl
 passes_agree nesting_passes nesting_passes = refl
 passes_agree unbuilt_passes unbuilt_passes = refl
 
-no_fault : {E F X : Type 0} {e : E} {r : Answer F X} → Passes (Fails e) r → ⊥
+pub no_fault : {E F X : Type 0} {e : E} {r : Answer F X} → Passes (Fails e) r → ⊥
 no_fault h = elim h [ ]
 
 fails_injective : {E X : Type 0} {x y : E} → ◌≡◌ {A = Answer E X} (Fails x) (Fails y) → x ≡ y
 fails_injective e = cc
 
 -- the two ends of a task and another after its fault
-data Tries {E F X : Type 0} (p : Task E X) (q : Task F X) (K : Pairs) (r : Answer F X) (L : Pairs) (n : ℕ) : Type 0 where
+pub data Tries {E F X : Type 0} (p : Task E X) (q : Task F X) (K : Pairs) (r : Answer F X) (L : Pairs) (n : ℕ) : Type 0 where
   passed : (s : Answer E X) → p K s L n → Passes s r → Tries p q K r L n
   tried : (e : E) (between : Pairs) (i j : ℕ) → p K (Fails e) between i → q between r L j → n ≡ i + j → Tries p q K r L n
 
 passed_as : {E F X : Type 0} (p : Task E X) (q : Task F X) (K : Pairs) (r t : Answer F X) (L : Pairs) (n : ℕ) (s : Answer E X) → p K s L n → Passes s t → r ≡ t → Tries p q K r L n
 passed_as p q K r t L n s a h e = passed s a (subst (Passes s) (sym e) h)
 
-tries : {E F X : Type 0} (p : Task E X) (q : Task F X) (K : Pairs) (r : Answer F X) (L : Pairs) (n : ℕ) → or_else p q K r L n → Tries p q K r L n
+pub tries : {E F X : Type 0} (p : Task E X) (q : Task F X) (K : Pairs) (r : Answer F X) (L : Pairs) (n : ℕ) → or_else p q K r L n → Tries p q K r L n
 tries p q K r L n (or_else.first x a e) = passed_as p q K r (Gives x) L n (Gives x) a value_passes e
 tries p q K r L n (or_else.high a e) = passed_as p q K r High L n High a high_passes e
 tries p q K r L n (or_else.nesting a e) = passed_as p q K r Nested L n Nested a nesting_passes e

@@ -1,11 +1,11 @@
 -- What a task that is made of tasks answers, and when it runs out.
-use Rattle.std.proofs.Common.{refl, ◌≡◌, ◌<◌, ◌+◌, ℕ, subst, arith}
+use Rattle.std.proofs.Common.{sym, refl, ◌≡◌, ◌<◌, ◌+◌, ℕ, subst, arith}
 use Rattle.ld_reduce.specs.Task.{Pairs, Answer, Gives, Fails, High, Nested, NotBuilt, Task, Ends, ◌>>=◌, goes_on, ends, with_fault, faults_by}
 use Rattle.ld_reduce.specs.Work.{Work, Takes}
 use Rattle.ld_reduce.proofs.Tasks.{bind_answers, ends_answers, faults_answers}
 use Rattle.ld_convert.specs.Known.{or_else}
 use Rattle.ld_convert.specs.Account.{Comes, RunsOut}
-use Rattle.ld_convert.proofs.Agreeing.{gives_injective, no_value}
+use Rattle.ld_convert.proofs.Agreeing.{gives_injective, no_value, Passes, value_passes, high_passes, nesting_passes, unbuilt_passes, passes_agree, no_fault, Tries, passed, tried, tries}
 
 -- steps one after the other
 pub takes_both : (a b d : Work) (i j : ℕ) → Takes a b i → Takes b d j → Takes a d (i + j)
@@ -112,3 +112,24 @@ or_else_out_then {E = E} {F = F} {X = X} p q e K M a b d s t = record { none = �
         let one = s.answers.only (Fails f) H i first in
         let l = t.none v N j (subst (λ k. q k v N j) one.1 second) in
         omega (arith, sum, one.2, l, s.takes.left)
+
+passes_is : {E F X : Type 0} (p : Task E X) (q : Task F X) (s : Answer E X) (r : Answer F X) (K L : Pairs) (n : ℕ) → p K s L n → Passes s r → or_else p q K r L n
+passes_is p q (Gives x) r K L n h value_passes = or_else.first x h refl
+passes_is p q High r K L n h high_passes = or_else.high h refl
+passes_is p q Nested r K L n h nesting_passes = or_else.nesting h refl
+passes_is p q NotBuilt r K L n h unbuilt_passes = or_else.unbuilt h refl
+passes_is p q (Fails e) r K L n h x = absurd (no_fault x)
+
+-- an answer that is no fault is that of the whole
+pub or_else_passes : {E F X : Type 0} (p : Task E X) (q : Task F X) (s : Answer E X) (r : Answer F X) (K L : Pairs) (a b : Work) → Comes p K s L a b → Passes s r → Comes (or_else p q) K r L a b
+or_else_passes {E = E} {F = F} {X = X} p q s r K L a b c h = record {
+  steps = c.steps;
+  answers = record { is = passes_is p q s r K L c.steps c.answers.is h; only = λ v N m w. alone v N m (tries p q K v N m w) };
+  takes = c.takes;
+}
+  where
+    alone : (v : Answer F X) (N : Pairs) (m : ℕ) → Tries p q K v N m → (v ≡ r) × (N ≡ L) × (m ≡ c.steps)
+    alone v N m (passed t first g) =
+        let o = c.answers.only t N m first in
+        (passes_agree (subst (λ x. Passes x v) o.0 g) h, o.1, o.2)
+    alone v N m (tried e M i j first second sum) = absurd (no_fault (subst (λ x. Passes x r) (sym (c.answers.only (Fails e) M i first).0) h))
