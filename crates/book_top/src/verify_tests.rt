@@ -87,6 +87,31 @@ fn changed_files(rt: HostRuntime) -> Result<(), Fail> {
     Ok(())
 }
 
+// What stands behind the header.
+#[test]
+fn hostile_files(rt: HostRuntime) -> Result<(), Fail> {
+    for (rest, report) in [
+        // A number that isn't spelled in the least bytes, and a count that the bytes don't have.
+        (b"\x03\x80\x00".as_slice(), "offset 8: malformed\n"),
+        (
+            b"\x07\x00\xff\xff\xff\xff\xff\xff\xff\xff\xff\x01",
+            "offset 8: malformed\n",
+        ),
+        // A term and a context that aren't there, an entry that isn't there, and unequal terms.
+        (b"\x10\x00\x00", "record 0: reference\n"),
+        (b"\x07\x05\x00", "record 0: reference\n"),
+        (b"\x01\x02\x20\x00\x01", "record 2: step\n"),
+        // A variable index of 65,536.
+        (b"\x03\x80\x80\x04", "record 0: step\n"),
+        (b"\x03\xff\xff\x03", "unfinished\n"),
+    ] {
+        let mut bytes = Vec::from_slice(rt.alloc(), &ONE_PRIMITIVE[..8])?;
+        bytes.extend_from_slice(rest)?;
+        verify(&rt, rt.alloc(), &bytes, 8, report)?;
+    }
+    Ok(())
+}
+
 // Checks a book, and verifies what it wrote and each front of that.
 fn check_and_verify(
     rt: &impl Abort,
