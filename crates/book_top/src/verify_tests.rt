@@ -230,15 +230,14 @@ fn failing_calls_of_verify(rt: HostRuntime) -> Result<(), Fail> {
 fn changed_bytes(rt: HostRuntime) -> Result<(), Fail> {
     for place in 0..27 {
         for value in 0..256 {
+            let wanted = if place == 17 || ONE_PRIMITIVE[place] == value as u8 {
+                0
+            } else {
+                8
+            };
             let mut bytes = ONE_PRIMITIVE;
             bytes[place] = value as u8;
-            let same = bytes == ONE_PRIMITIVE;
-            let wanted = if same || place == 17 { 0 } else { 8 };
-            let mut desk = desk_of(
-                rt.alloc(),
-                [("deriv", bytes.as_slice()), ("out", b"old")],
-                &[],
-            )?;
+            let mut desk = desk_of(rt.alloc(), [("deriv", &bytes), ("out", b"old")], &[])?;
             let status = run(rt.alloc(), &["verify", "deriv"], &mut desk);
             assert_eq!(rt; status.code(), wanted, "{place}: {value}: {status:?}");
         }
