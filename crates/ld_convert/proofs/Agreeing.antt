@@ -73,7 +73,7 @@ passes_agree unbuilt_passes unbuilt_passes = refl
 pub no_fault : {E F X : Type 0} {e : E} {r : Answer F X} → Passes (Fails e) r → ⊥
 no_fault h = elim h [ ]
 
-fails_injective : {E X : Type 0} {x y : E} → ◌≡◌ {A = Answer E X} (Fails x) (Fails y) → x ≡ y
+pub fails_injective : {E X : Type 0} {x y : E} → ◌≡◌ {A = Answer E X} (Fails x) (Fails y) → x ≡ y
 fails_injective e = cc
 
 -- the two ends of a task and another after its fault

@@ -129,7 +129,7 @@ two_of known es o p q h is = as_many known (length known.env) es h.parts h.same 
 same_number : (k j : ℕ) → (k == j) ≡ true → k ≡ j
 same_number k j e = grind (arith, nat_tests)
 
-where_true : (t : Bool) (o : Option (List Part)) (ps : List Part) → (if t then o else None) ≡ Some ps → (t ≡ true) × (o ≡ Some ps)
+pub where_true : (t : Bool) (o : Option (List Part)) (ps : List Part) → (if t then o else None) ≡ Some ps → (t ≡ true) × (o ≡ Some ps)
 where_true true o ps e = (refl, e)
 where_true false o ps e = absurd (cc)
 

@@ -4,3 +4,12 @@ mod Congruent
 pub mod Agreeing
 pub mod Spending
 pub mod Once
+mod Ready
+mod Carrying
+mod AfterTurns
+mod Walking
+mod Unfoldings
+mod ByHeads
+mod NamedParts
+mod Comparing
+mod OneTurn

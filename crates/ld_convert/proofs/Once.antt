@@ -34,7 +34,7 @@ module _ (env : Env) (compare : Tree → Tree → Task Apart (Unit {0})) (hc : (
   by_parts_once : (ps : List Part) → AnswersOnce (c.by_parts env compare ps)
   by_parts_once ps = bind_once (c.all_same env compare ps) (λ _. gives None) (all_same_once ps) (λ _. gives_once None)
 
-  heads_once : (equal : Bool) (ss : List c.Side) (ps : Option (List Part)) (a b : Tree) → AnswersOnce (c.by_heads env compare equal ss ps a b)
+  pub heads_once : (equal : Bool) (ss : List c.Side) (ps : Option (List Part)) (a b : Tree) → AnswersOnce (c.by_heads env compare equal ss ps a b)
   heads_once true ss ps a b = gives_once None
   heads_once false [] None a b = at_once (Fails (apart a b 0)) 0
   heads_once false [] (Some ps) a b = by_parts_once ps
@@ -50,7 +50,7 @@ module _ (env : Env) (compare : Tree → Tree → Task Apart (Unit {0})) (hc : (
       (reaches_once (BetaHead b) (runs_once beta_step b))
       (λ v. heads_once (equals u v) (c.sides env u v) (parts_of u v) u v))
 
-  turns_once : {a b : Tree} {K K1 K2 : Pairs} {r1 r2 : Answer Apart (Unit {0})} {n1 n2 : ℕ} →
+  pub turns_once : {a b : Tree} {K K1 K2 : Pairs} {r1 r2 : Answer Apart (Unit {0})} {n1 n2 : ℕ} →
       Turns env compare a b K r1 K1 n1 → Turns env compare a b K r2 K2 n2 → Agree r1 r2 K1 K2 n1 n2
   turns_once (Turns.same e) (Turns.same e') = record { answer = refl; known = refl; steps = refl }
   turns_once (Turns.same e) (Turns.last e' t) = absurd (both_tests e e')
@@ -81,7 +81,7 @@ module _ (env : Env) (compare : Tree → Tree → Task Apart (Unit {0})) (hc : (
       let v = turns_once (subst (λ k. Turns env compare pair'.0 pair'.1 k r K1 j) s.known at) w' in
       record { answer = v.answer; known = v.known; steps = q ∙ ap (λ k. k + j) s.steps ∙ ap (λ k. i' + k) v.steps ∙ sym q' }
 
-  comparison_once : (a b : Tree) → AnswersOnce (comparison env compare a b)
+  pub comparison_once : (a b : Tree) → AnswersOnce (comparison env compare a b)
   comparison_once a b K K1 K2 r1 r2 n1 n2 h h' =
       let s = turns_once h.turns h'.turns in
       record {
@@ -93,7 +93,7 @@ module _ (env : Env) (compare : Tree → Tree → Task Apart (Unit {0})) (hc : (
       }
 
 -- a comparison has at most one answer, known pairs and number of steps
-within_once : (left : ℕ) (env : Env) (a b : Tree) → AnswersOnce (compare_within left env a b)
+pub within_once : (left : ℕ) (env : Env) (a b : Tree) → AnswersOnce (compare_within left env a b)
 within_once zero env a b = at_once Nested 0
 within_once (suc left) env a b = comparison_once env (compare_within left env) (within_once left env) a b
 

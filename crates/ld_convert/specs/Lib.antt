@@ -5,4 +5,6 @@ pub mod Pairs
 pub mod Walks
 pub mod AtOnce
 pub mod Account
+pub mod Turned
+pub mod Sides
 pub mod Laws

@@ -1,5 +1,6 @@
 //! What a comparison works with, and what it answers.
 ghost use Rattle.std.specs.Prelude.{◌≡◌, []};
+ghost use Rattle.ld_reduce.specs.Work.{work};
 
 use crate::Known;
 use ld_record::EqId;
@@ -15,13 +16,13 @@ pub struct Job {
 }
 
 impl Job {
-    /// A job of this budget, with no pairs.
-    pub fn new(alloc: Global, budget: Budget) -> Job
-        ensures budget { result.budget ≡ budget }
+    /// A job of so many steps, none of which is made, with no pairs.
+    pub fn new(alloc: Global, budget: u64) -> Job
+        ensures budget { result.budget ≡ work budget 0 }
         ensures known { result.known ≡ [] }
     {
         Job {
-            budget,
+            budget: Budget::new(budget),
             known: Known::new(alloc),
         }
     }

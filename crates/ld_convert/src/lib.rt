@@ -2,13 +2,17 @@
 #![tactic(auto)]
 
 mod at_once;
+mod comparison;
 mod job;
 mod known;
 pub mod laws;
 mod parts;
+mod sides;
+mod turning;
 mod whole;
 
 pub use at_once::{remember, same_at_once};
+pub use comparison::compare;
 pub use job::{Compared, Job};
 pub use known::{Known, Pair};
 pub use parts::{Part, gather};
