@@ -4,7 +4,9 @@ mod Following
 mod Unfolding
 mod Stepping
 mod Walks
-mod Turns
+mod Forming
+mod Redexes
+mod Looping
 pub mod Once
 pub mod CallerLemmas
 mod Sampled

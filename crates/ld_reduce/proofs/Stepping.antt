@@ -1,5 +1,5 @@
 -- One step at the head, from the step of the function part, and what comes of it alone.
-use Rattle.std.proofs.Common.{◌≡◌, ◌≤◌, ℕ, List, Option, None, Some, Result, Ok, Err, is_some, true, false, refl, ap, sym, ◌∙◌, subst, arith}
+use Rattle.std.proofs.Common.{◌≡◌, ◌≤◌, ℕ, List, Option, Some, Result, Ok, Err, ap, sym, ◌∙◌, subst}
 use Rattle.ld_terms.specs.Tree.{Tree, App, Const, Trees}
 use Rattle.ld_terms.specs.Put.{put}
 use Rattle.ld_terms.specs.Entry.{Env}
@@ -8,7 +8,7 @@ use Rattle.ld_terms.specs.Bank.{tree_at}
 use Rattle.ld_terms.specs.Known.{Known}
 use Rattle.ld_terms.specs.declared.bank.TermId.{TermId}
 use Rattle.ld_record.specs.declared.record.EqId.{EqId}
-use Rattle.ld_reduce.specs.Heads.{At, applied, beta_step, delta_step, first_of, head_step, Unfold, unfolded}
+use Rattle.ld_reduce.specs.Heads.{At, applied, delta_step, Unfold, unfolded}
 use Rattle.ld_reduce.specs.Work.{Work, Takes}
 use Rattle.ld_reduce.specs.Cost.{Equates, Found, Answers}
 use Rattle.ld_reduce.specs.Steps.{IsMade, Makes, OneStep, HasBodyFor}
@@ -58,27 +58,6 @@ applied_made next t t' f u u' m n before items old known g e result is same_t sa
 pub instance_made : (env : Env) (t : Tree) (k : ℕ) (us : Trees) (body : Tree) (n : ℕ) (items : List Item) (known : Known) (result : Result (TermId × EqId) Stop)
     → t ≡ Const k us → HasBodyFor env k us body → Makes t (put body us) n items known result → OneStep (delta_step env) t n items known result
 instance_made env t k us body n items known result e h makes = record { to = put body us; is = ap (delta_step env) e ∙ unfolds_to env k us body h; makes = makes }
-
--- the step at the head is the beta step, and else the unfolding
-pub beta_first : (env : Env) (t : Tree) (n : ℕ) (items : List Item) (known : Known) (result : Result (TermId × EqId) Stop)
-    → OneStep beta_step t 0 items known result → OneStep (head_step env) t n items known result
-beta_first env t n items known result h = record {
-  to = h.to;
-  is = ap (λ o. first_of o (delta_step env t)) h.is;
-  makes = makes_raised t h.to 0 n items known result (omega arith) h.makes;
-}
-
-pub then_delta : (env : Env) (t : Tree) (n : ℕ) (items : List Item) (known : Known) (result : Result (TermId × EqId) Stop) → beta_step t ≡ None
-    → OneStep (delta_step env) t n items known result → OneStep (head_step env) t n items known result
-then_delta env t n items known result none h = record { to = h.to; is = ap (λ o. first_of o (delta_step env t)) none ∙ h.is; makes = h.makes }
-
-pub some_of : (o : Option Tree) → is_some o ≡ true → (u : Tree) × (o ≡ Some u)
-some_of None e = absurd (cc)
-some_of (Some u) e = (u, refl)
-
-pub none_of : (o : Option Tree) → is_some o ≡ false → o ≡ None
-none_of None e = refl
-none_of (Some u) e = absurd (cc)
 
 pub found_made : (items : List Item) (known : Known) (from to : Tree) (n : ℕ) (t : TermId) (e : EqId) → IsMade items known from to n t e → Found items known from n t e
 found_made items known from to n t e h =

@@ -2,16 +2,13 @@
 use Rattle.std.proofs.Common.{◌≡◌, ◌+◌, ℕ, refl, sym, ap, ◌∙◌, subst, arith}
 use Rattle.ld_terms.specs.Tree.{Tree}
 use Rattle.ld_terms.specs.Item.{One, IsSmall}
-use Rattle.ld_reduce.specs.Task.{Pairs, Answer, Gives, Fails, High, NotBuilt, Task, gives, fails, not_built, step, formed, small, high, Ends, fault, nesting, unbuilt, ◌>>=◌, goes_on, ends, with_fault, faults_by, Answers}
+use Rattle.ld_reduce.specs.Task.{Pairs, Answer, Gives, Fails, High, Task, gives, fails, step, formed, small, high, Ends, fault, nesting, ◌>>=◌, goes_on, ends, with_fault, faults_by, Answers}
 
 pub gives_answers : {E X : Type 0} (x : X) (K : Pairs) → Answers {E = E} (gives x) K (Gives x) K 0
 gives_answers x K = record { is = (refl, refl, refl); only = λ s L m h. h }
 
 pub fails_answers : {E X : Type 0} (e : E) (K : Pairs) → Answers {E = E} {X = X} (fails e) K (Fails e) K 0
 fails_answers e K = record { is = (refl, refl, refl); only = λ s L m h. h }
-
-pub not_built_answers : {E X : Type 0} (K : Pairs) → Answers {E = E} {X = X} not_built K NotBuilt K 0
-not_built_answers K = record { is = (refl, refl, refl); only = λ s L m h. h }
 
 pub step_answers : {E : Type 0} (K : Pairs) → Answers {E = E} step K (Gives tt) K 1
 step_answers K = record { is = (refl, refl, refl); only = λ s L m h. h }
@@ -37,7 +34,6 @@ bind_answers {E = E} {X = X} {Y = Y} p f x K K1 r K' i j a b = record {
     gives_ends stop s e fault = cc
     gives_ends stop s e high = cc
     gives_ends stop s e nesting = cc
-    gives_ends stop s e unbuilt = cc
 
     after : (s : Answer E Y) (L : Pairs) (m : ℕ) (y : X) (M : Pairs) (k l : ℕ) → p K (Gives y) M k → f y M s L l → m ≡ k + l → (s ≡ r) × (L ≡ K') × (m ≡ i + j)
     after s L m y M k l first second sum =
@@ -63,25 +59,17 @@ ends_answers {E = E} {X = X} {Y = Y} p f s r K K' n a e = record {
     ends_gives s r y q fault = cc
     ends_gives s r y q high = cc
     ends_gives s r y q nesting = cc
-    ends_gives s r y q unbuilt = cc
 
     ends_once : (s : Answer E X) (r : Answer E Y) (stop : Answer E X) (t : Answer E Y) → stop ≡ s → Ends s r → Ends stop t → t ≡ r
     ends_once s r stop t q fault fault = cc
     ends_once s r stop t q fault high = cc
     ends_once s r stop t q fault nesting = cc
-    ends_once s r stop t q fault unbuilt = cc
     ends_once s r stop t q high fault = cc
     ends_once s r stop t q high high = cc
     ends_once s r stop t q high nesting = cc
-    ends_once s r stop t q high unbuilt = cc
     ends_once s r stop t q nesting fault = cc
     ends_once s r stop t q nesting high = cc
     ends_once s r stop t q nesting nesting = cc
-    ends_once s r stop t q nesting unbuilt = cc
-    ends_once s r stop t q unbuilt fault = cc
-    ends_once s r stop t q unbuilt high = cc
-    ends_once s r stop t q unbuilt nesting = cc
-    ends_once s r stop t q unbuilt unbuilt = cc
 
 -- with a fault told anew
 pub faults_answers : {E F X : Type 0} (g : E → F) (p : Task E X) (r : Answer E X) (K K' : Pairs) (n : ℕ) → Answers p K r K' n → Answers (faults_by g p) K (with_fault g r) K' n

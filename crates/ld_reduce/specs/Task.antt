@@ -7,19 +7,18 @@ use Rattle.ld_terms.specs.Item.{One, IsSmall}
 abbrev pub Pairs : Type 0
 Pairs = List (Tree × Tree)
 
--- An answer is a value or a fault; or a tree wasn't small, or the nesting was passed, or a form of judging is wanted that is not built.
+-- An answer is a value or a fault; or a tree wasn't small, or the nesting was passed.
 pub data Answer (E X : Type 0) : Type 0 where
   Gives : X → Answer E X
   Fails : E → Answer E X
   High : Answer E X
   Nested : Answer E X
-  NotBuilt : Answer E X
 
 -- From the known pairs a task answers, leaves known pairs, and makes a number of steps.
 abbrev pub Task : Type 0 → Type 0 → Type 1
 Task E X = Pairs → Answer E X → Pairs → ℕ → Type 0
 
--- At once it gives a value, has a fault, answers that the nesting is passed, or wants what is not built.
+-- At once it gives a value, has a fault, or answers that the nesting is passed.
 abbrev pub gives : {E X : Type 0} → X → Task E X
 gives x K r K' n = (r ≡ Gives x) × (K' ≡ K) × (n ≡ 0)
 
@@ -28,9 +27,6 @@ fails e K r K' n = (r ≡ Fails e) × (K' ≡ K) × (n ≡ 0)
 
 abbrev pub nested : {E X : Type 0} → Task E X
 nested K r K' n = (r ≡ Nested) × (K' ≡ K) × (n ≡ 0)
-
-abbrev pub not_built : {E X : Type 0} → Task E X
-not_built K r K' n = (r ≡ NotBuilt) × (K' ≡ K) × (n ≡ 0)
 
 -- no answer, for what isn't there
 abbrev pub no_answer : {E X : Type 0} → Task E X
@@ -50,7 +46,6 @@ pub data Ends {E X Y : Type 0} : Answer E X → Answer E Y → Type 0 where
   fault : {e : E} → Ends (Fails e) (Fails e)
   high : Ends High High
   nesting : Ends Nested Nested
-  unbuilt : Ends NotBuilt NotBuilt
 
 -- a task and then, with the value that it gives, another
 pub data ◌>>=◌ {E X Y : Type 0} (p : Task E X) (f : X → Task E Y) (K : Pairs) (r : Answer E Y) (K' : Pairs) (n : ℕ) : Type 0 where
@@ -68,7 +63,6 @@ with_fault f (Gives x) = Gives x
 with_fault f (Fails e) = Fails (f e)
 with_fault f High = High
 with_fault f Nested = Nested
-with_fault f NotBuilt = NotBuilt
 
 abbrev pub faults_by : {E F X : Type 0} → (E → F) → Task E X → Task F X
 faults_by {E} {F} {X} f p K r K' n = (s : Answer E X) × p K s K' n × (r ≡ with_fault f s)

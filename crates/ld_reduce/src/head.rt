@@ -4,7 +4,7 @@ ghost use Rattle.ld_terms.specs.Tree.{count};
 ghost use Rattle.ld_terms.specs.Item.{IsSmall};
 ghost use Rattle.ld_terms.specs.Bank.{item_at, tree_at, list_at, IsTermAt, IsListAt};
 ghost use Rattle.ld_env.specs.Entries.{env_of, AreLive};
-ghost use Rattle.ld_reduce.specs.Heads.{beta_step, delta_step, head_step, head_number};
+ghost use Rattle.ld_reduce.specs.Heads.{beta_step, delta_step, head_number};
 ghost use Rattle.ld_reduce.specs.Steps.{IsUnfolding};
 
 use ld_env::Env;
@@ -38,16 +38,6 @@ pub fn defined_head(bank: &Bank, env: &Env, t: TermId) -> Option<u32>
         Node::Const(k, us) => unfolding(bank, env, k, us).and(Some(k)),
         _ => None,
     }
-}
-
-// Whether a step can be made at the head.
-pub(crate) fn has_head(bank: &Bank, env: &Env, t: TermId) -> bool
-    requires live { AreLive bank.now env.now }
-    requires term { IsTermAt bank.now t }
-    ensures step { result ≡ is_some (head_step (env_of bank.now env.now) (tree_at bank.now t)) }
-    ensures small { IsSmall (item_at bank.now t) }
-{
-    has_beta(bank, t) || defined_head(bank, env, t).is_some()
 }
 
 // The body that an instance unfolds to.

@@ -11,25 +11,29 @@ use fb_base::NoMemory;
 use ld_record::{Deriv, EqId, EqStep};
 use ld_terms::{Bank, TermId};
 
-// The equality of the first of `ends` and the second, from the equality so far and that of the next step.
-pub(crate) fn joined(
+// The equality of the first of `ends` and the second, from the one so far and the next.
+pub(crate) fn chained(
     bank: &Bank,
     deriv: &mut Deriv,
     ends: (TermId, TermId),
     equal: Option<EqId>,
-    step: EqId,
-) -> Result<EqId, NoMemory>
+    next: Option<EqId>,
+) -> Result<Option<EqId>, NoMemory>
     requires sound { IsSound bank.now deriv.old }
     requires first { IsTermAt bank.now ends.0 }
     requires last { IsTermAt bank.now ends.1 }
-    requires joins { IsFollowed (known_of bank.now deriv.old) equal step (tree_at bank.now ends.0) (tree_at bank.now ends.1) }
-    ensures equal { IfOk result (λ e. Equates (known_of bank.now deriv.new) e (tree_at bank.now ends.0) (tree_at bank.now ends.1)
-        (bound_after (known_of bank.now deriv.old) equal step)) }
+    requires joins { IsFollowed (known_of bank.now deriv.old) equal next (tree_at bank.now ends.0) (tree_at bank.now ends.1) }
+    ensures equal { IfOk result (λ o. Joins (known_of bank.now deriv.new) o (tree_at bank.now ends.0) (tree_at bank.now ends.1)
+        (bound_after (known_of bank.now deriv.old) equal next)) }
     ensures goes { Goes bank.now bank.now deriv.old deriv.new }
 {
-    match equal {
-        Some(e) => deriv.emit_eq(bank, ends.0, ends.1, EqStep::Trans(e, step)),
-        None => Ok(step),
+    match (equal, next) {
+        (Some(e), Some(step)) => {
+            let both = deriv.emit_eq(bank, ends.0, ends.1, EqStep::Trans(e, step))?;
+            Ok(Some(both))
+        }
+        (Some(e), None) => Ok(Some(e)),
+        (None, step) => Ok(step),
     }
 }
 

@@ -3,6 +3,7 @@
 #![tactic(auto)]
 
 mod budget;
+mod form;
 mod head;
 mod join;
 pub mod laws;
@@ -13,6 +14,7 @@ mod step;
 mod stop;
 #[cfg(test)]
 mod tests;
+mod top;
 
 pub use budget::Budget;
 pub use head::{defined_head, has_beta};

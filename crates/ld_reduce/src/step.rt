@@ -1,4 +1,4 @@
-//! One step at the head, and an equality that is kept of it.
+//! One step of a redex, or under an argument, and an equality that is kept of it.
 ghost use Rattle.std.specs.Prelude.{◌≡◌, is_some, true, length, IfOk};
 ghost use Rattle.ld_terms.specs.Tree.{App, Nil, ◌▸◌};
 ghost use Rattle.ld_terms.specs.Put.{put};
@@ -30,7 +30,7 @@ pub(crate) fn same(bank: &Bank, deriv: &mut Deriv, t: TermId) -> Result<EqId, No
 }
 
 // An abstraction of the body `m` on the argument `u` becomes the body with the argument put in.
-fn contract_redex(
+pub(crate) fn contract_redex(
     bank: &mut Bank,
     deriv: &mut Deriv,
     t: TermId,
@@ -52,7 +52,7 @@ fn contract_redex(
 }
 
 // An instance with the arguments `us` becomes its entry's body with the arguments put in.
-fn unfold_instance(
+pub(crate) fn unfold_instance(
     bank: &mut Bank,
     deriv: &mut Deriv,
     t: TermId,
@@ -75,7 +75,7 @@ fn unfold_instance(
 }
 
 // The term `t` is an application on `u`; its function part is equal to the first of `part`, by the second.
-fn under_argument(
+pub(crate) fn under_argument(
     bank: &mut Bank,
     deriv: &mut Deriv,
     t: TermId,
@@ -96,31 +96,6 @@ fn under_argument(
     let argument = same(bank, deriv, u)?;
     let e = deriv.emit_eq(bank, t, to, EqStep::App(part.1, argument))?;
     Ok((to, e))
-}
-
-// The beta step at the head.
-pub(crate) fn beta_once(
-    bank: &mut Bank,
-    deriv: &mut Deriv,
-    t: TermId,
-) -> Result<(TermId, EqId), Stop>
-    requires sound { IsSound bank.old deriv.old }
-    requires term { IsTermAt bank.old t }
-    requires named { IsNamed (known_of bank.old deriv.old).env (tree_at bank.old t) }
-    requires step { is_some (beta_step (tree_at bank.old t)) ≡ true }
-    ensures step { OneStep beta_step (tree_at bank.old t) 0 bank.new (known_of bank.new deriv.new) result }
-    ensures goes { Goes bank.old bank.new deriv.old deriv.new }
-{
-    match bank.node(t) {
-        Node::App(f, u) => match bank.node(f) {
-            Node::Lam(_, m) => contract_redex(bank, deriv, t, m, u),
-            _ => {
-                let part = beta_once(bank, deriv, f)?;
-                under_argument(bank, deriv, t, u, part)
-            }
-        },
-        _ => unreachable!(),
-    }
 }
 
 // The unfolding of the head.
@@ -150,29 +125,5 @@ pub(crate) fn delta_once(
             None => unreachable!(),
         },
         _ => unreachable!(),
-    }
-}
-
-// The step at the head: the beta step, or else the unfolding.
-pub(crate) fn head_once(
-    bank: &mut Bank,
-    env: &Env,
-    deriv: &mut Deriv,
-    t: TermId,
-) -> Result<(TermId, EqId), Stop>
-    requires sound { IsSound bank.old deriv.old }
-    requires env { env_of bank.old env.now ≡ (known_of bank.old deriv.old).env }
-    requires live { AreLive bank.old env.now }
-    requires term { IsTermAt bank.old t }
-    requires named { IsNamed (known_of bank.old deriv.old).env (tree_at bank.old t) }
-    requires step { is_some (head_step (known_of bank.old deriv.old).env (tree_at bank.old t)) ≡ true }
-    ensures step { OneStep (head_step (known_of bank.old deriv.old).env) (tree_at bank.old t) (length (known_of bank.old deriv.old).env)
-        bank.new (known_of bank.new deriv.new) result }
-    ensures goes { Goes bank.old bank.new deriv.old deriv.new }
-{
-    if has_beta(bank, t) {
-        beta_once(bank, deriv, t)
-    } else {
-        delta_once(bank, env, deriv, t)
     }
 }

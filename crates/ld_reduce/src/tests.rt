@@ -46,18 +46,44 @@ fn tall(bank: &mut Bank, height: u32) -> Result<TermId, TermFault>
     Ok(term)
 }
 
-// `(fun x : *. * (* x)) u`, where the argument is of height 499.
-fn too_tall(bank: &mut Bank) -> Result<TermId, TermFault>
+// `(fun x : *. * (* x)) u`, where the argument has the height.
+fn grows(bank: &mut Bank, height: u32) -> Result<TermId, TermFault>
     ensures term { IfOk result (λ t. IsTermAt bank.new t) }
     ensures named { IfOk result (λ t. IsNamed [] (tree_at bank.new t)) }
 {
-    let argument = tall(bank, 499)?;
+    let argument = tall(bank, height)?;
     let star = bank.add(Node::Star)?;
     let element = bank.add(Node::Var(0))?;
     let inner = bank.add(Node::App(star, element))?;
     let body = bank.add(Node::App(star, inner))?;
     let function = bank.add(Node::Lam(star, body))?;
     bank.add(Node::App(function, argument))
+}
+
+// The same on an argument `*`.
+fn grows_under(bank: &mut Bank, height: u32) -> Result<TermId, TermFault>
+    ensures term { IfOk result (λ t. IsTermAt bank.new t) }
+    ensures named { IfOk result (λ t. IsNamed [] (tree_at bank.new t)) }
+{
+    let function = grows(bank, height)?;
+    let star = bank.add(Node::Star)?;
+    bank.add(Node::App(function, star))
+}
+
+// `fun x : *. .. fun x : *. x` with so many abstractions, on as many arguments `*`.
+fn nested(bank: &mut Bank, count: u32) -> Result<TermId, TermFault>
+    ensures term { IfOk result (λ t. IsTermAt bank.new t) }
+    ensures named { IfOk result (λ t. IsNamed [] (tree_at bank.new t)) }
+{
+    let star = bank.add(Node::Star)?;
+    let mut term = bank.add(Node::Var(0))?;
+    'functions: for _ in 0..count {
+        term = bank.add(Node::Lam(star, term))?;
+    }
+    'arguments: for _ in 0..count {
+        term = bank.add(Node::App(term, star))?;
+    }
+    Ok(term)
 }
 
 #[test]
@@ -74,10 +100,27 @@ fn makes_two_beta_steps(rt: HostRuntime) -> Result<(), Fail> {
     };
     assert_eq!(rt; bank.node(function), Node::Var(3));
     assert_eq!(rt; bank.node(argument), Node::Var(5));
-    // A beta step under two arguments and one under one, each argument equal to itself, and both steps one after the other.
-    assert_eq!(rt; (deriv.count(), equal.number()), (9, 8));
-    let last = format!(in rt.alloc(); "{:?}", deriv.kept(8))?;
-    assert!(rt; last.as_str().ends_with("Trans(EqId(4), EqId(7)))"));
+    // The first step, under the second argument, and the second step after it; both under the third argument at once.
+    assert_eq!(rt; (deriv.count(), equal.number()), (7, 6));
+    let joined = format!(in rt.alloc(); "{:?}", deriv.kept(4))?;
+    assert!(rt; joined.as_str().ends_with("Trans(EqId(2), EqId(3)))"));
+    let last = format!(in rt.alloc(); "{:?}", deriv.kept(6))?;
+    assert!(rt; last.as_str().ends_with("App(EqId(4), EqId(5)))"));
+    Ok(())
+}
+
+#[test]
+fn keeps_four_records_a_step(rt: HostRuntime) -> Result<(), Fail> {
+    let mut bank = Bank::new(rt.alloc());
+    let mut deriv = Deriv::new(rt.alloc());
+    let term = nested(&mut bank, 200)?;
+    let mut budget = Budget::new(200);
+    let (to, _) = beta_head(&mut bank, &mut deriv, term, &mut budget)?;
+    assert_eq!(rt; (budget.left(), budget.spent()), (0, 200));
+    assert_eq!(rt; bank.node(to), Node::Star);
+    // The first step is one. For each other: the argument with itself, the application of what was led to, the step, and
+    // both one after the other.
+    assert_eq!(rt; deriv.count(), 4 * 200 - 3);
     Ok(())
 }
 
@@ -97,7 +140,7 @@ fn stops_where_no_step_is_left(rt: HostRuntime) -> Result<(), Fail> {
 fn counts_the_step_to_a_high_term(rt: HostRuntime) -> Result<(), Fail> {
     let mut bank = Bank::new(rt.alloc());
     let mut deriv = Deriv::new(rt.alloc());
-    let term = too_tall(&mut bank)?;
+    let term = grows(&mut bank, 499)?;
     let mut budget = Budget::new(10);
     let result = beta_head(&mut bank, &mut deriv, term, &mut budget);
     assert!(rt; matches!(result, Err(Stop::High)));
@@ -106,10 +149,33 @@ fn counts_the_step_to_a_high_term(rt: HostRuntime) -> Result<(), Fail> {
 }
 
 #[test]
+fn counts_the_step_that_is_too_high_under_an_argument(rt: HostRuntime) -> Result<(), Fail> {
+    let mut bank = Bank::new(rt.alloc());
+    let mut deriv = Deriv::new(rt.alloc());
+    let term = grows_under(&mut bank, 498)?;
+    let mut budget = Budget::new(10);
+    let result = beta_head(&mut bank, &mut deriv, term, &mut budget);
+    assert!(rt; matches!(result, Err(Stop::High)));
+    assert_eq!(rt; (budget.left(), budget.spent()), (9, 1));
+    Ok(())
+}
+
+#[test]
+fn makes_a_term_of_the_greatest_height(rt: HostRuntime) -> Result<(), Fail> {
+    let mut bank = Bank::new(rt.alloc());
+    let mut deriv = Deriv::new(rt.alloc());
+    let term = grows_under(&mut bank, 497)?;
+    let mut budget = Budget::new(10);
+    let (to, _) = beta_head(&mut bank, &mut deriv, term, &mut budget)?;
+    assert_eq!(rt; (bank.height(to), budget.spent()), (500, 1));
+    Ok(())
+}
+
+#[test]
 fn leaves_a_head_form(rt: HostRuntime) -> Result<(), Fail> {
     let mut bank = Bank::new(rt.alloc());
     let mut deriv = Deriv::new(rt.alloc());
-    let term = tall(&mut bank, 3)?;
+    let term = tall(&mut bank, 500)?;
     let mut budget = Budget::new(0);
     let (to, equal) = beta_head(&mut bank, &mut deriv, term, &mut budget)?;
     assert_eq!(rt; to, term);
