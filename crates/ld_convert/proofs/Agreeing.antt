@@ -1,7 +1,7 @@
 -- Tasks that are made of tasks with at most one answer have at most one answer.
 use Rattle.std.specs.Prelude.{◌≡◌, ℕ, ◌+◌, Bool, true, false, refl, Some, None}
 use Rattle.std.proofs.Common.{sym, ◌∙◌, ap, subst}
-use Rattle.ld_reduce.specs.Task.{Pairs, Answer, Gives, Fails, High, Nested, NotBuilt, Task, gives, Ends, fault, high, nesting, unbuilt, ◌>>=◌, goes_on, ends, with_fault, faults_by}
+use Rattle.ld_reduce.specs.Task.{Pairs, Answer, Gives, Fails, High, Nested, Task, gives, Ends, fault, high, nesting, ◌>>=◌, goes_on, ends, with_fault, faults_by}
 use Rattle.ld_reduce.specs.Heads.{Way, reaches}
 use Rattle.ld_reduce.specs.Laws.{Once}
 use Rattle.ld_reduce.proofs.Once.{answers_once}
@@ -27,7 +27,6 @@ pub ends_agree : {E X Y : Type 0} {s : Answer E X} {r1 r2 : Answer E Y} → Ends
 ends_agree fault fault = refl
 ends_agree high high = refl
 ends_agree nesting nesting = refl
-ends_agree unbuilt unbuilt = refl
 
 pub at_once : {E X : Type 0} (v : Answer E X) (k : ℕ) (K L M : Pairs) (r s : Answer E X) (n m : ℕ) →
     (r ≡ v) × (L ≡ K) × (n ≡ k) → (s ≡ v) × (M ≡ K) × (m ≡ k) → Agree r s L M n m
@@ -62,13 +61,11 @@ pub data Passes {E F X : Type 0} : Answer E X → Answer F X → Type 0 where
   value_passes : {x : X} → Passes (Gives x) (Gives x)
   high_passes : Passes High High
   nesting_passes : Passes Nested Nested
-  unbuilt_passes : Passes NotBuilt NotBuilt
 
 pub passes_agree : {E F X : Type 0} {s : Answer E X} {r1 r2 : Answer F X} → Passes s r1 → Passes s r2 → r1 ≡ r2
 passes_agree value_passes value_passes = refl
 passes_agree high_passes high_passes = refl
 passes_agree nesting_passes nesting_passes = refl
-passes_agree unbuilt_passes unbuilt_passes = refl
 
 pub no_fault : {E F X : Type 0} {e : E} {r : Answer F X} → Passes (Fails e) r → ⊥
 no_fault h = elim h [ ]
@@ -88,7 +85,6 @@ pub tries : {E F X : Type 0} (p : Task E X) (q : Task F X) (K : Pairs) (r : Answ
 tries p q K r L n (or_else.first x a e) = passed_as p q K r (Gives x) L n (Gives x) a value_passes e
 tries p q K r L n (or_else.high a e) = passed_as p q K r High L n High a high_passes e
 tries p q K r L n (or_else.nesting a e) = passed_as p q K r Nested L n Nested a nesting_passes e
-tries p q K r L n (or_else.unbuilt a e) = passed_as p q K r NotBuilt L n NotBuilt a unbuilt_passes e
 tries p q K r L n (or_else.second e b i j a c sum) = tried e b i j a c sum
 
 tries_once : {E F X : Type 0} (p : Task E X) (q : Task F X) (K K1 K2 : Pairs) (r1 r2 : Answer F X) (n1 n2 : ℕ) → AnswersOnce p → AnswersOnce q

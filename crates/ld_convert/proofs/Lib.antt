@@ -13,3 +13,12 @@ mod ByHeads
 mod NamedParts
 mod Comparing
 mod OneTurn
+pub mod HeadSteps
+mod AlikeParts
+mod LedOn
+mod ScopedEntries
+pub mod Apartness
+mod Sampled
+pub mod Means
+mod PartsConvert
+pub mod Sameness

@@ -1,11 +1,11 @@
 -- What a task that is made of tasks answers, and when it runs out.
 use Rattle.std.proofs.Common.{sym, refl, ◌≡◌, ◌<◌, ◌+◌, ℕ, subst, arith}
-use Rattle.ld_reduce.specs.Task.{Pairs, Answer, Gives, Fails, High, Nested, NotBuilt, Task, Ends, ◌>>=◌, goes_on, ends, with_fault, faults_by}
+use Rattle.ld_reduce.specs.Task.{Pairs, Answer, Gives, Fails, High, Nested, Task, Ends, ◌>>=◌, goes_on, ends, with_fault, faults_by}
 use Rattle.ld_reduce.specs.Work.{Work, Takes}
 use Rattle.ld_reduce.proofs.Tasks.{bind_answers, ends_answers, faults_answers}
 use Rattle.ld_convert.specs.Known.{or_else}
 use Rattle.ld_convert.specs.Account.{Comes, RunsOut}
-use Rattle.ld_convert.proofs.Agreeing.{gives_injective, no_value, Passes, value_passes, high_passes, nesting_passes, unbuilt_passes, passes_agree, no_fault, Tries, passed, tried, tries}
+use Rattle.ld_convert.proofs.Agreeing.{gives_injective, no_value, Passes, value_passes, high_passes, nesting_passes, passes_agree, no_fault, Tries, passed, tried, tries}
 
 -- steps one after the other
 pub takes_both : (a b d : Work) (i j : ℕ) → Takes a b i → Takes b d j → Takes a d (i + j)
@@ -63,7 +63,6 @@ or_else_out p q K a b h = record {
     | or_else.first x first e ↦ h.none (Gives x) L n first
     | or_else.high first e ↦ h.none High L n first
     | or_else.nesting first e ↦ h.none Nested L n first
-    | or_else.unbuilt first e ↦ h.none NotBuilt L n first
     | or_else.second e M i j first second sum ↦ let l = h.none (Fails e) M i first in omega (arith, sum, l)
   ];
   left = h.left;
@@ -78,9 +77,6 @@ high_fails h = cc
 nested_fails : {E X : Type 0} {e : E} → ◌≡◌ {A = Answer E X} Nested (Fails e) → ⊥
 nested_fails h = cc
 
-unbuilt_fails : {E X : Type 0} {e : E} → ◌≡◌ {A = Answer E X} NotBuilt (Fails e) → ⊥
-unbuilt_fails h = cc
-
 -- a fault, and what goes on after it
 pub or_else_then : {E F X : Type 0} (p : Task E X) (q : Task F X) (e : E) (K M L : Pairs) (r : Answer F X) (a b d : Work) → Comes p K (Fails e) M a b → Comes q M r L b d → Comes (or_else p q) K r L a d
 or_else_then {E = E} {F = F} {X = X} p q e K M L r a b d s t = record {
@@ -93,7 +89,6 @@ or_else_then {E = E} {F = F} {X = X} p q e K M L r a b d s t = record {
     alone v N m (or_else.first x first f) = absurd (gives_fails (s.answers.only (Gives x) N m first).0)
     alone v N m (or_else.high first f) = absurd (high_fails (s.answers.only High N m first).0)
     alone v N m (or_else.nesting first f) = absurd (nested_fails (s.answers.only Nested N m first).0)
-    alone v N m (or_else.unbuilt first f) = absurd (unbuilt_fails (s.answers.only NotBuilt N m first).0)
     alone v N m (or_else.second f H i j first second sum) =
         let one = s.answers.only (Fails f) H i first in
         let two = t.answers.only v N j (subst (λ k. q k v N j) one.1 second) in
@@ -107,7 +102,6 @@ or_else_out_then {E = E} {F = F} {X = X} p q e K M a b d s t = record { none = �
     late v N m (or_else.first x first f) = absurd (gives_fails (s.answers.only (Gives x) N m first).0)
     late v N m (or_else.high first f) = absurd (high_fails (s.answers.only High N m first).0)
     late v N m (or_else.nesting first f) = absurd (nested_fails (s.answers.only Nested N m first).0)
-    late v N m (or_else.unbuilt first f) = absurd (unbuilt_fails (s.answers.only NotBuilt N m first).0)
     late v N m (or_else.second f H i j first second sum) =
         let one = s.answers.only (Fails f) H i first in
         let l = t.none v N j (subst (λ k. q k v N j) one.1 second) in
@@ -117,7 +111,6 @@ passes_is : {E F X : Type 0} (p : Task E X) (q : Task F X) (s : Answer E X) (r :
 passes_is p q (Gives x) r K L n h value_passes = or_else.first x h refl
 passes_is p q High r K L n h high_passes = or_else.high h refl
 passes_is p q Nested r K L n h nesting_passes = or_else.nesting h refl
-passes_is p q NotBuilt r K L n h unbuilt_passes = or_else.unbuilt h refl
 passes_is p q (Fails e) r K L n h x = absurd (no_fault x)
 
 -- an answer that is no fault is that of the whole

@@ -2,7 +2,7 @@
 use Rattle.std.specs.Prelude.{◌≡◌, ℕ, ◌+◌, Bool, true, false, ◌&&◌, ◌||◌, [], ◌∷◌, ◌++◌}
 use Rattle.ld_terms.specs.Tree.{Tree}
 use Rattle.ld_terms.specs.Tests.{equals}
-use Rattle.ld_reduce.specs.Task.{Pairs, Answer, Gives, Fails, High, Nested, NotBuilt, Task}
+use Rattle.ld_reduce.specs.Task.{Pairs, Answer, Gives, Fails, High, Nested, Task}
 
 abbrev pub is_known : Pairs → Tree → Tree → Bool
 is_known [] a b = false
@@ -18,5 +18,4 @@ pub data or_else {E F X : Type 0} (p : Task E X) (q : Task F X) (K : Pairs) (r :
   first : (x : X) → p K (Gives x) K' n → r ≡ Gives x → or_else p q K r K' n
   high : p K High K' n → r ≡ High → or_else p q K r K' n
   nesting : p K Nested K' n → r ≡ Nested → or_else p q K r K' n
-  unbuilt : p K NotBuilt K' n → r ≡ NotBuilt → or_else p q K r K' n
   second : (e : E) (between : Pairs) (i j : ℕ) → p K (Fails e) between i → q between r K' j → n ≡ i + j → or_else p q K r K' n

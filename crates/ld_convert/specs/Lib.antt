@@ -8,3 +8,6 @@ pub mod Account
 pub mod Turned
 pub mod Sides
 pub mod Laws
+pub mod Apartness
+pub mod Samples
+pub mod Sameness

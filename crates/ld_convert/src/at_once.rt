@@ -14,6 +14,7 @@ use ld_record::{Deriv, EqId, EqStep};
 use ld_terms::{Bank, TermId};
 
 /// The equality of two terms that have one tree, or are a known pair.
+#[inline(never)]
 pub fn same_at_once(
     bank: &Bank,
     deriv: &mut Deriv,
@@ -37,6 +38,7 @@ pub fn same_at_once(
 }
 
 /// Keeps two terms that were found the same as a known pair, unless they are one.
+#[inline(never)]
 pub fn remember(
     bank: &Bank,
     known: &mut Known,

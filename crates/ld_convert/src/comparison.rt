@@ -10,6 +10,7 @@ ghost use Rattle.ld_convert.specs.Compares.{Compares, Turns};
 ghost use Rattle.ld_convert.specs.Known.{is_known};
 ghost use Rattle.ld_convert.specs.Pairs.{pairs_of, ArePairsLive};
 ghost use Rattle.ld_convert.specs.Account.{ComparedAs};
+ghost use Rattle.ld_convert.specs.Apartness.{ShowsApart};
 ghost use Rattle.ld_convert.specs.Turned.{IsReady, AreComparable, IsShallow, IsShallowTurn, AreSpentLess, TurnedAs, next_turn};
 
 use crate::turning::{Turned, follow, turn};
@@ -25,6 +26,7 @@ const GREATEST_NESTING: u32 = 1000;
 /// Compares two terms by their head forms, with an equality of the two where they are the same. `nest` is the nesting of
 /// the comparison: 1 where it is no part of another, and one more for the parts of two terms. Each beta step and each
 /// unfolding is a step of the job. Two terms that are found the same, but not at once, are a known pair from then on.
+/// Where it answers `Apart`, the two aren't convertible, and neither are the two terms in the answer.
 ///
 /// `Nested`: parts are nested deeper than 1,000. `High`, `Spent`: as in [`beta_head`](ld_reduce::beta_head).
 #[cycle(compare)]
@@ -53,6 +55,7 @@ pub fn compare(
     ensures goes { Goes bank.old bank.new deriv.old deriv.new }
     ensures most { job.new.budget.left ≤ job.old.budget.left }
     ensures under { IfOk result (IsShallow nest) }
+    ensures apart { IfOk result (ShowsApart (known_of bank.old deriv.old).env bank.new (tree_at bank.old a) (tree_at bank.old b)) }
 {
     if nest > GREATEST_NESTING {
         return Err(Stop::Nested);

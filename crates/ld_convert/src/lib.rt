@@ -5,9 +5,17 @@ mod at_once;
 mod comparison;
 mod job;
 mod known;
+#[cfg(test)]
+mod known_tests;
 pub mod laws;
+#[cfg(test)]
+mod part_tests;
 mod parts;
+#[cfg(test)]
+mod sample;
 mod sides;
+#[cfg(test)]
+mod tests;
 mod turning;
 mod whole;
 

@@ -17,6 +17,7 @@ pub struct Part {
 
 /// Gathers the parts of two terms behind those that are there: those of the heads, and then the spines, from left to right.
 /// The answer is whether the heads are alike and the spines as long.
+#[inline(never)]
 pub fn gather(bank: &Bank, a: TermId, b: TermId, parts: &mut Vec<Part>) -> Result<bool, NoMemory>
     requires live { All (IsLivePart bank.now) parts.old.items }
     requires first { IsTermAt bank.now a }

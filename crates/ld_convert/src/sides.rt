@@ -35,6 +35,7 @@ impl Sides {
 
 // The sides of two terms to be unfolded: both where their heads are one defined constant, else the one whose constant was
 // defined later.
+#[inline(never)]
 pub(crate) fn sides_to_unfold(bank: &Bank, env: &Env, a: TermId, b: TermId) -> Sides
     requires live { AreLive bank.now env.now }
     requires first { IsTermAt bank.now a }
@@ -55,6 +56,7 @@ pub(crate) fn sides_to_unfold(bank: &Bank, env: &Env, a: TermId, b: TermId) -> S
 }
 
 // Unfolds the sides of two terms.
+#[inline(never)]
 pub(crate) fn unfold_sides(
     bank: &mut Bank,
     env: &Env,

@@ -208,6 +208,7 @@ fn walk(
 }
 
 // What two terms come to that lead to two others, from what those come to.
+#[inline(never)]
 pub(crate) fn follow(
     bank: &Bank,
     deriv: &mut Deriv,

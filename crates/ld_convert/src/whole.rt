@@ -12,6 +12,7 @@ use ld_record::{Deriv, EqId, EqStep, Eqs};
 use ld_terms::{Bank, Node, TermId};
 
 /// The equality of two terms, from one for each of their parts, in the order in which [`gather`](crate::gather) gives them.
+#[inline(never)]
 pub fn congruence(
     bank: &Bank,
     deriv: &mut Deriv,

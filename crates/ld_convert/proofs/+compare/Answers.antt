@@ -23,6 +23,8 @@ use Rattle.ld_convert.proofs.Ready.{ready_later, pairs_stay, tree_later, term_la
 use Rattle.ld_convert.proofs.Walking.{walk_stops, walk_apart, ready_after, walk_next, walk_ends}
 use Rattle.ld_convert.proofs.AfterTurns.{next_comes, next_stops, turns_stops, parts_once, come_next}
 use Rattle.ld_convert.proofs.Comparing.{next_answers, compare_now, compare_stops, compare_apart, compare_same, not_found, found, kept_live, going_next, turn_stops, turn_goes_on}
+use Rattle.ld_convert.proofs.ScopedEntries.{env_scoped}
+use Rattle.ld_convert.proofs.Apartness.{shows_apart}
 use Rattle.ld_convert.proofs.OneTurn.{reached, reach_stops, first_stop, second_stop, turn_answers}
 use Rattle.ld_convert.proofs.+compare.Goals as goal
 
@@ -124,6 +126,18 @@ comparison::compare-returns-in_default-compared-clause-answer t c =
     c.in_ok-compared.ensures.answer in
     compare_apart env c.args.nest a b later (known_of later c.turns.new.deriv) K L old new c.in_ok-compared.compared c.in_default-compared.field-0 c.in_default-compared.field-1 c.in_default-compared.field-2
     (omega (arith, c.if-nest-gt-GREATEST_NESTING.false)) differ c.in_default-compared.is here
+
+pub comparison::compare-returns-in_default-compared-clause-apart : goal.comparison::compare-returns-in_default-compared-clause-apart
+comparison::compare-returns-in_default-compared-clause-apart t c =
+    let items = c.args.bank.now in
+    let env = (known_of items c.args.deriv.now).env in
+    let later = c.turns.new.bank in
+    let a = tree_at items c.args.a in
+    let b = tree_at items c.args.b in
+    let K = pairs_of items c.args.job.now.known in
+    let L = pairs_of later c.turns.new.job.known in
+    shows_apart env c.args.nest a b (length env) later (known_of later c.turns.new.deriv) K L c.args.job.now.budget c.turns.new.job.budget c.in_ok-compared.compared
+    (env_scoped items c.args.deriv.now c.requires.sound) (comparison::compare-returns-in_default-compared-clause-answer t c)
 
 pub comparison::compare-returns-in_default-compared-clause-goes : goal.comparison::compare-returns-in_default-compared-clause-goes
 comparison::compare-returns-in_default-compared-clause-goes t c = goes_trans _ _ _ _ _ _ c.same_at_once.ensures.goes c.turns.ensures.goes
