@@ -46,7 +46,6 @@ runs_out_then {E = E} {X = X} {Y = Y} p f x old mid new a b = record {
     gives_ends stop s e Ends.fault = cc
     gives_ends stop s e Ends.high = cc
     gives_ends stop s e Ends.nesting = cc
-    gives_ends stop s e Ends.unbuilt = cc
 
     after : (r : Answer E Y) (L : Pairs) (m : ℕ) (y : X) (M : Pairs) (k l : ℕ) → p old.known (Gives y) M k → f y M r L l → m ≡ k + l → old.left < m
     after r L m y M k l first second sum =

@@ -1,6 +1,6 @@
 -- The answers of the rows for products and abstractions: the standings are those at the start, behind the domain, with the
 -- variable, behind what is read under it, and without the variable.
-use Rattle.std.proofs.Common.{◌≡◌, ◌+◌, ℕ, Bool, true, Option, Some, refl, ap, sym, ◌∙◌, subst, length}
+use Rattle.std.proofs.Common.{◌≡◌, ◌+◌, ℕ, Bool, true, List, Option, Some, refl, ap, sym, ◌∙◌, subst, length}
 use Rattle.std.specs.Prelude.{IfSome, is_some}
 use Rattle.ld_terms.specs.Tree.{Tree, Trees, Lam, Pi, ◌▸◌}
 use Rattle.ld_terms.specs.Item.{One, IsSmall, tree}
@@ -24,10 +24,13 @@ use Rattle.ld_infer.specs.declared.inference.BodyTyped.{BodyTyped}
 use Rattle.ld_reduce.specs.Task.{Task, Gives}
 use Rattle.ld_infer.specs.Account.{Account, Comes}
 use Rattle.ld_infer.specs.Reading.{Refusal, Found, found, within, SortOf, part_reading, product_reading, abstraction_reading, body_reading}
-use Rattle.ld_infer.specs.Standing.{Standing, known, env, here, Continues, Enters, KnowsSort, without_last}
+use Rattle.ld_convert.specs.declared.job.Job.{Job}
+use Rattle.ld_convert.specs.declared.known.Pair.{Pair}
+use Rattle.ld_infer.specs.Standing.{Standing, known, env, here, account, Continues, Enters, KnowsSort, KnowsPairs, without_last}
 use Rattle.ld_reduce.specs.Cost.{stop_of}
 use Rattle.ld_infer.specs.Infers.{Stops, IsWithin, IsTyped, IsSorted, IsBodyTyped}
 use Rattle.ld_infer.proofs.Going.{continues_trans, continues_around, here_stays, term_stays, tree_stays, knows_stays, sort_stays}
+use Rattle.ld_infer.proofs.Pairs.{told_later, account_entered, account_left, pairs_left}
 use Rattle.ld_infer.proofs.Staying.{known_here, at_same}
 use Rattle.ld_infer.proofs.Binding.{product_stops_range, product_given, abstraction_stops_body, abstraction_stops_formed, abstraction_given}
 
@@ -70,6 +73,20 @@ module _ (a b c e d : Standing) (x : TermId) (h : IsAround a b c e d x) (at : Is
 
   outer_knows : (j : JudgeId) (s : Judgement) → Knows (known e) j s → Knows (known d) j s
   outer_knows j s k = let P : Standing → Type 0 = λ z. Knows (known z) j s in subst P (sym h.leaves) k
+
+  -- the account of a job is the same with the variable, and without it
+  pub inner_account : (job : Job) → KnowsPairs b job.known → account c job ≡ account b job
+  inner_account job pairs = account_entered b c (tree_at b.items x) job h.enters pairs
+
+  pub outer_account : (job : Job) → account d job ≡ account e job
+  outer_account job = account_left e d job h.leaves
+
+  pub outer_pairs : (ps : List Pair) → KnowsPairs e ps → KnowsPairs d ps
+  outer_pairs ps pairs = pairs_left e d ps h.leaves pairs
+
+  -- what is told of the account with the variable, is told without it and later
+  pub told_outside : (g : Standing) (job : Job) (P : Account → Type 0) → Continues d g → KnowsPairs e job.known → P (account e job) → P (account g job)
+  told_outside g job P on pairs p = told_later d g job P on (outer_pairs job.known pairs) (subst P (sym (outer_account job)) p)
 
   -- Products.
   range_moved : (nest : ℕ) (y : TermId) (P : Task Refusal Tree → Type 0) → IsTermAt a.items y

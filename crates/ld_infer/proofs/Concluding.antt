@@ -20,7 +20,7 @@ use Rattle.ld_record.specs.Kept.{known_of, judgement_of, FitsNode, IsSound}
 use Rattle.ld_record.specs.Growth.{Knows, KnowsContext, Adds, over_first}
 use Rattle.ld_record.proofs.CallerLemmas.{Says, said, node_fits, named, derivable}
 use Rattle.ld_infer.specs.declared.theory.Level.{Level}
-use Rattle.ld_infer.specs.declared.theory.Variable.{Variable}
+use Rattle.ld_infer.specs.declared.variable.Variable.{Variable}
 use Rattle.ld_infer.specs.Standing.{Standing, known, env, here, KnowsSort, without}
 use Rattle.ld_infer.specs.Theory.{context_of, IsLevel, IsVariable, IsTheory}
 use Rattle.ld_infer.specs.Variables.{judged_in, EndsWith}

@@ -7,7 +7,7 @@ use Rattle.ld_terms.specs.Item.{Item}
 use Rattle.ld_terms.specs.Bank.{Extends, IsTermAt, tree_at, listed}
 use Rattle.ld_terms.proofs.Listing.{listed-push, listed-later}
 use Rattle.ld_terms.specs.declared.bank.TermId.{TermId}
-use Rattle.ld_infer.specs.declared.theory.Variable.{Variable}
+use Rattle.ld_infer.specs.declared.variable.Variable.{Variable}
 use Rattle.ld_infer.specs.Standing.{without, without_last}
 use Rattle.ld_infer.specs.Theory.{types_of, context_of, no_variable, variable_at}
 

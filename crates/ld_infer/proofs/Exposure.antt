@@ -21,7 +21,9 @@ use Rattle.ld_record.specs.Growth.{Knows}
 use Rattle.ld_record.proofs.CallerLemmas.{derivable}
 use Rattle.ld_reduce.specs.Task.{Pairs, Task, Answer, Gives, Fails, High, Answers}
 use Rattle.ld_reduce.specs.Heads.{Expose, At, head_step}
-use Rattle.ld_reduce.specs.Work.{work}
+use Rattle.ld_reduce.specs.Work.{Work, work}
+use Rattle.ld_convert.specs.Pairs.{pairs_of}
+use Rattle.ld_convert.specs.declared.job.Job.{Job}
 use Rattle.ld_reduce.specs.Cost as cost
 use Rattle.ld_reduce.specs.Cost.{Equates}
 use Rattle.ld_reduce.specs.declared.stop.Stop.{Stop}
@@ -36,12 +38,13 @@ use Rattle.ld_infer.specs.declared.inference.Typed.{Typed}
 use Rattle.ld_infer.specs.declared.function.FunctionTyped.{FunctionTyped}
 use Rattle.ld_infer.specs.Account.{Account, Comes}
 use Rattle.ld_infer.specs.Reading.{Asked, NotSort, NotFunction, Refusal, refusal, Found, found, exposed, exposed_sort, sort_in, again, product_of, exposed_product, product_in, product_read, read_within, part_reading, Types, SortOf}
-use Rattle.ld_infer.specs.Standing.{Standing, known, env, here, Continues, KnowsType}
+use Rattle.ld_infer.specs.Standing.{Standing, known, env, here, account, Continues, KnowsType, KnowsPairs}
 use Rattle.ld_infer.specs.Infers.{Stops, StopsBy, Exposes, IsTyped, IsSorted, IsTypedAgain, IsFunctionTyped, InfersSort, InfersFunction, IsRefusedBy}
 use Rattle.ld_infer.proofs.Accounts.{comes_then}
 use Rattle.ld_infer.proofs.Stopping.{stop_first, stops_first, stops_then, refused_by}
 use Rattle.ld_infer.proofs.Sorts.{gives_now, fails_now, at_fault}
 use Rattle.ld_infer.proofs.Going.{continues_trans, here_stays, term_stays, tree_stays, knows_stays}
+use Rattle.ld_infer.proofs.Pairs.{account_stays}
 use Rattle.ld_infer.proofs.Staying.{known_here, at_same, at_both}
 use Rattle.ld_infer.proofs.Concluding.{well_formed}
 use Rattle.ld_infer.proofs.HeadScopes.{runs_scoped}
@@ -83,18 +86,19 @@ exposure old new type w w' (Err stop.High) scoped within goes sound known_is h =
 exposure old new type w w' (Err stop.Nested) scoped within goes sound known_is h = absurd h
 exposure old new type w w' (Err stop.Memory) scoped within goes sound known_is h = tt
 
--- The same for the values that a theory had: the type is that of a judgement of its context.
-pub exposed_type : (old inside new : Standing) (t : TermId) (j : JudgeId) (w w' : Account) (result : Result (TermId × EqId) Stop) → inside ≡ old → IsSound inside.items inside.kept
-    → KnowsType old j (tree_at old.items t) → Continues old new → IsSound new.items new.kept → w'.known ≡ w.known
-    → cost.Answers (Expose (env inside) (tree_at inside.items t)) (tree_at inside.items t) (length (env inside)) new.items (known new) (work w.left w.spent) (work w'.left w'.spent) result
-    → Exposes old new (tree_at old.items t) w w' result
-exposed_type old inside new t j w w' result view sound h goes now known_is answers =
+-- The same for the values that a theory had, and a job: the type is that of a judgement of its context.
+pub exposed_type : (old inside new : Standing) (t : TermId) (j : JudgeId) (job : Job) (budget : Work) (result : Result (TermId × EqId) Stop) → inside ≡ old → IsSound inside.items inside.kept
+    → KnowsType old j (tree_at old.items t) → Continues old new → IsSound new.items new.kept → KnowsPairs old job.known
+    → cost.Answers (Expose (env inside) (tree_at inside.items t)) (tree_at inside.items t) (length (env inside)) new.items (known new) job.budget budget result
+    → Exposes old new (tree_at old.items t) (account old job) (account new (record job { budget = budget })) result
+exposed_type old inside new t j job budget result view sound h goes now pairs answers =
     let P : Standing → Type 0 = λ s. IsSound s.items s.kept in
-    let Q : Standing → Type 0 = λ s.
-    cost.Answers (Expose (env s) (tree_at s.items t)) (tree_at s.items t) (length (env s)) new.items (known new) (work w.left w.spent) (work w'.left w'.spent) result in
+    let Q : Standing → Type 0 = λ s. cost.Answers (Expose (env s) (tree_at s.items t)) (tree_at s.items t) (length (env s)) new.items (known new) job.budget budget result in
     let sound_old = subst P view sound in
     let formed = well_formed old j h.term (tree_at old.items t) sound_old h.knows in
-    exposure old new (tree_at old.items t) w w' result (env_scoped old j h.term (tree_at old.items t) sound_old h.knows) formed.1.scoped goes now known_is (subst Q view answers)
+    let same : pairs_of new.items job.known ≡ pairs_of old.items job.known = ap (λ (w : Account). w.known) (account_stays old new job goes pairs) in
+    exposure old new (tree_at old.items t) (account old job) (account new (record job { budget = budget })) result (env_scoped old j h.term (tree_at old.items t) sound_old h.knows) formed.1.scoped goes now same
+    (subst Q view answers)
 
 pub type_named : (old inside : Standing) (t : TermId) (j : JudgeId) → inside ≡ old → IsSound inside.items inside.kept → KnowsType old j (tree_at old.items t) → IsNamed (env inside) (tree_at inside.items t)
 type_named old inside t j view sound h =
@@ -285,16 +289,16 @@ sort_reached a b c d q t to type judge w w' goes more last at at_to gives is kno
     }
 
 -- a type that is typed again, told of the standing before it was reached
-again_moved : (a b : Standing) (nest : ℕ) (x : Tree) (P : Task Refusal (Unit {0}) → Type 0) → Continues a b
-    → P (again (env b) (count b.context) (part_reading nest (env b) b.context) (Appl, 1) x) → P (again (env a) (count a.context) (part_reading nest (env a) a.context) (Appl, 1) x)
-again_moved a b nest x P goes h = at_both (λ Δ ctx. P (again Δ (count ctx) (part_reading nest Δ ctx) (Appl, 1) x)) goes.adds.env goes.context h
+pub again_moved : (a b : Standing) (nest : ℕ) (q : Asked) (x : Tree) (P : Task Refusal (Unit {0}) → Type 0) → Continues a b
+    → P (again (env b) (count b.context) (part_reading nest (env b) b.context) q x) → P (again (env a) (count a.context) (part_reading nest (env a) a.context) q x)
+again_moved a b nest q x P goes h = at_both (λ Δ ctx. P (again Δ (count ctx) (part_reading nest Δ ctx) q x)) goes.adds.env goes.context h
 
 pub product_stopped : (a b : Standing) (items : List Item) (nest : ℕ) (type t dom ran : Tree) (g : InferFault) (w w1 w2 : Account) → Continues a b → Comes (exposed (env a) type) (Gives t) w w1 → t ≡ Pi dom ran
     → Stops items (again (env b) (count b.context) (part_reading nest (env b) b.context) (Appl, 1) t) g w1 w2
     → Stops items (product_in (env a) (count a.context) (part_reading nest (env a) a.context) None (Appl, 1) type) g w w2
 product_stopped a b items nest type t dom ran g w w1 w2 goes h is k =
     product_again_stops (env a) (count a.context) (part_reading nest (env a) a.context) (Appl, 1) items type t dom ran g w w1 w2 h is
-    (again_moved a b nest t (λ p. Stops items p g w1 w2) goes k)
+    (again_moved a b nest (Appl, 1) t (λ p. Stops items p g w1 w2) goes k)
 
 -- the answer that a product was reached: the standings are those at the start, behind the product, behind its sort, and at the end
 pub product_reached : (a b c d : Standing) (nest : ℕ) (f to dom ran : TermId) (type : Tree) (s : TermId × JudgeId) (judge : JudgeId) (w w1 w2 : Account)
@@ -316,6 +320,6 @@ product_reached a b c d nest f to dom ran type s judge w w1 w2 goes more last at
       range = term_stays b d ran on at_ran;
       gives = at_both G (sym dom_is) (sym ran_is)
           (product_exposed (env a) (count a.context) (part_reading nest (env a) a.context) (Appl, 1) type (tree_at b.items to) (tree_at b.items dom) (tree_at b.items ran) w w1 w2 gives is
-          (again_moved a b nest (tree_at b.items to) (λ p. Comes p (Gives tt) w1 w2) goes again_is.gives));
+          (again_moved a b nest (Appl, 1) (tree_at b.items to) (λ p. Comes p (Gives tt) w1 w2) goes again_is.gives));
       judged = known_here a c d judge (tree_at c.items f) (tree_at a.items f) (tree_at c.items to) _ all (tree_stays a c f all at) to_is knows;
     }

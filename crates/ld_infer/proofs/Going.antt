@@ -1,6 +1,8 @@
 -- What a theory stands for, as terms, contexts and judgements are added.
 use Rattle.std.proofs.Common.{◌≡◌, ℕ, List, length, refl, ap, sym, ◌∙◌, subst}
-use Rattle.ld_terms.specs.Tree.{Tree, Trees, ◌▸◌}
+use Rattle.ld_terms.specs.Tree.{Tree, Trees, ◌▸◌, count}
+use Rattle.ld_terms.specs.Entry.{Env}
+use Rattle.ld_terms.specs.Named.{IsWellFormed}
 use Rattle.ld_terms.specs.Item.{Item, tree}
 use Rattle.ld_terms.specs.Bank.{Extends, tree_at, IsTermAt}
 use Rattle.ld_terms.proofs.Banks.{extends_refl, extends_trans, term_at_later}
@@ -14,7 +16,8 @@ use Rattle.ld_record.specs.Growth.{Knows, Adds}
 use Rattle.ld_record.proofs.Keeping.{begins_refl, begins_trans}
 use Rattle.ld_record.proofs.Growing.{adds_refl, adds_trans, adds_by, knows_later, known_later}
 use Rattle.ld_reduce.specs.Cost.{Goes}
-use Rattle.ld_infer.specs.Standing.{Standing, known, Continues, here, KnowsSort, Enters, without_last}
+use Rattle.ld_infer.specs.Infers.{IsReadable}
+use Rattle.ld_infer.specs.Standing.{Standing, known, env, Continues, here, KnowsSort, Enters, without_last}
 
 pub continues_refl : (s : Standing) → Continues s s
 continues_refl s = record { items = extends_refl s.items; kept = begins_refl s.kept; adds = adds_refl (known s); entries = refl; context = refl }
@@ -106,3 +109,15 @@ pub sort_known : (a b : Standing) (j : JudgeId) (t u s : Tree) → Continues a b
 sort_known a b j t u s h is knows e =
     let P : Tree → Type 0 = KnowsSort b j in
     subst P e (record { sort = s; is = is; knows = subst (Knows (known b) j) (sym (here_stays a b t s h)) knows })
+
+-- a tree over the entries and variables that are there is so later
+pub formed_later : (a b : Standing) (t u : Tree) → Continues a b → t ≡ u → IsWellFormed (env a) (count a.context) t → IsWellFormed (env b) (count b.context) u
+formed_later a b t u h e formed =
+    let P : Env → Type 0 = λ Δ. IsWellFormed Δ (count a.context) t in
+    let Q : Trees → Type 0 = λ ctx. IsWellFormed (env b) (count ctx) t in
+    let R : Tree → Type 0 = IsWellFormed (env b) (count b.context) in
+    subst R e (subst Q (sym h.context) (subst P (sym h.adds.env) formed))
+
+-- a term that is read stays so
+pub readable_later : (a b : Standing) (t : TermId) → Continues a b → IsReadable a t → IsReadable b t
+readable_later a b t h readable = (term_stays a b t h readable.0, formed_later a b (tree_at a.items t) (tree_at b.items t) h (sym (tree_stays a b t h readable.0)) readable.1)

@@ -16,22 +16,22 @@ use Rattle.ld_terms.specs.declared.bank.TermFault.TheVariants as term
 use Rattle.ld_record.specs.declared.record.JudgeId.{JudgeId}
 use Rattle.ld_record.specs.Growth.{Knows}
 use Rattle.ld_infer.specs.declared.failure.RuleName.TheVariants.{Abst, Appl}
-use Rattle.ld_infer.specs.declared.failure.PathStep.{PathStep}
 use Rattle.ld_infer.specs.declared.failure.PathStep.TheVariants.{Arg}
 use Rattle.ld_infer.specs.declared.failure.InferFault.{InferFault}
 use Rattle.ld_infer.specs.declared.failure.InferFault.TheVariants as fault
 use Rattle.ld_infer.specs.declared.inference.Typed.{Typed}
 use Rattle.ld_infer.specs.declared.function.FunctionTyped.{FunctionTyped}
 use Rattle.ld_reduce.specs.Task.{Task, Gives}
+use Rattle.ld_convert.specs.Compares.{Compares}
 use Rattle.ld_infer.specs.Account.{Account, Comes}
-use Rattle.ld_infer.specs.Reading.{Asked, Refusal, found, Types, part_reading, again_unless, body_reading, product_read, function_reading, argument_reading, application_reading}
+use Rattle.ld_infer.specs.Reading.{Asked, Refusal, found, Types, part_reading, again_unless, body_reading, product_read, function_reading, suited_reading, argument_reading, application_reading}
 use Rattle.ld_infer.specs.Standing.{Standing, known, env, here, Continues, KnowsSort}
 use Rattle.ld_reduce.specs.Cost.{stop_of}
 use Rattle.ld_infer.specs.Infers.{Stops, IsTyped, IsTypedAgain, IsBodyTyped, IsFunctionTyped, IsSuited}
 use Rattle.ld_infer.proofs.Going.{continues_trans, here_stays, term_stays, tree_stays, knows_stays}
 use Rattle.ld_infer.proofs.Staying.{known_here, at_same}
 use Rattle.ld_infer.proofs.Sorts.{gives_now}
-use Rattle.ld_infer.proofs.Parting.{product_read_given, argument_given}
+use Rattle.ld_infer.proofs.Parting.{product_read_given, suited_given}
 use Rattle.ld_infer.proofs.Binding.{body_sort_stops, body_given}
 use Rattle.ld_infer.proofs.Applying.{application_stops_argument, application_stops_formed, application_given}
 
@@ -48,51 +48,51 @@ function_typed a b nest f x dom ran w w' h at_dom at_ran e =
       judged = subst P e h.judged;
     }
 
-pub argument_typed : (a b : Standing) (nest : ℕ) (s : PathStep) (q : Asked) (wanted u : TermId) (x : Typed) (w w' : Account) → IsTyped a b (Types (env a) a.context (nest + 1) q (tree_at a.items u)) u w w' x
+pub suited_typed : (a b : Standing) (nest : ℕ) (q : Asked) (wanted u : TermId) (x : Typed) (w w' : Account) → IsTyped a b (Types (env a) a.context (nest + 1) q (tree_at a.items u)) u w w' x
     → tree_at b.items x.of ≡ tree_at a.items wanted
-    → IsSuited a b (argument_reading (env a) (count a.context) (part_reading nest (env a) a.context) s q (tree_at a.items wanted) (tree_at a.items u)) (tree_at a.items u) (tree_at a.items wanted) w w' x.judge
-argument_typed a b nest s q wanted u x w w' h e =
+    → IsSuited a b (suited_reading (env a) (Compares (env a) (nest + 1)) (count a.context) (part_reading nest (env a) a.context) q (tree_at a.items wanted) (tree_at a.items u)) (tree_at a.items u) (tree_at a.items wanted) w w' x.judge
+suited_typed a b nest q wanted u x w w' h e =
     let P : Tree → Type 0 = λ y. Knows (known b) x.judge (here a (tree_at a.items u) y) in
     record {
-      gives = argument_given (env a) (count a.context) (part_reading nest (env a) a.context) s q (tree_at a.items wanted) (tree_at a.items u) (tree_at b.items x.of) (is_some x.of_judge) w w' h.gives e;
+      gives = suited_given (env a) (Compares (env a) (nest + 1)) (count a.context) (part_reading nest (env a) a.context) q (tree_at a.items wanted) (tree_at a.items u) (tree_at b.items x.of) (is_some x.of_judge) w w' h.gives e;
       judged = subst P e h.judged;
     }
 
 -- Applications: the standings are those at the start, behind the function, the argument, the type and the judgement.
 pub argument_moved : (a b : Standing) (nest : ℕ) (u : TermId) (dom : Tree) (P : Task Refusal (Unit {0}) → Type 0) → Continues a b → IsTermAt a.items u
-    → P (argument_reading (env b) (count b.context) (part_reading nest (env b) b.context) Arg (Appl, 2) dom (tree_at b.items u))
-    → P (argument_reading (env a) (count a.context) (part_reading nest (env a) a.context) Arg (Appl, 2) dom (tree_at a.items u))
+    → P (argument_reading (env b) (Compares (env b) (nest + 1)) (count b.context) (part_reading nest (env b) b.context) Arg (Appl, 2) dom (tree_at b.items u))
+    → P (argument_reading (env a) (Compares (env a) (nest + 1)) (count a.context) (part_reading nest (env a) a.context) Arg (Appl, 2) dom (tree_at a.items u))
 argument_moved a b nest u dom P goes at h =
-    at_same (λ Δ ctx t. P (argument_reading Δ (count ctx) (part_reading nest Δ ctx) Arg (Appl, 2) dom t)) goes.adds.env goes.context (tree_stays a b u goes at) h
+    at_same (λ Δ ctx t. P (argument_reading Δ (Compares Δ (nest + 1)) (count ctx) (part_reading nest Δ ctx) Arg (Appl, 2) dom t)) goes.adds.env goes.context (tree_stays a b u goes at) h
 
 pub application_refused : (a b c : Standing) (nest : ℕ) (f u : TermId) (x : FunctionTyped) (g : InferFault) (w w1 w2 : Account) → Continues a b → IsTermAt a.items u
     → IsFunctionTyped a b (function_reading (env a) (part_reading nest (env a)) a.context (tree_at a.items f)) f w w1 x
-    → Stops c.items (argument_reading (env b) (count b.context) (part_reading nest (env b) b.context) Arg (Appl, 2) (tree_at b.items x.domain) (tree_at b.items u)) g w1 w2
-    → Stops c.items (application_reading (env a) (part_reading nest (env a)) a.context (tree_at a.items f) (tree_at a.items u)) g w w2
+    → Stops c.items (argument_reading (env b) (Compares (env b) (nest + 1)) (count b.context) (part_reading nest (env b) b.context) Arg (Appl, 2) (tree_at b.items x.domain) (tree_at b.items u)) g w1 w2
+    → Stops c.items (application_reading (env a) (Compares (env a) (nest + 1)) (part_reading nest (env a)) a.context (tree_at a.items f) (tree_at a.items u)) g w w2
 application_refused a b c nest f u x g w w1 w2 goes at h s =
-    application_stops_argument (env a) (part_reading nest (env a)) a.context c.items (tree_at a.items f) (tree_at a.items u) (tree_at b.items x.domain) (tree_at b.items x.range) g w w1 w2 h.gives
+    application_stops_argument (env a) (Compares (env a) (nest + 1)) (part_reading nest (env a)) a.context c.items (tree_at a.items f) (tree_at a.items u) (tree_at b.items x.domain) (tree_at b.items x.range) g w w1 w2 h.gives
     (argument_moved a b nest u (tree_at b.items x.domain) (λ p. Stops c.items p g w1 w2) goes at s)
 
 pub application_high : (a b c d : Standing) (nest : ℕ) (f u : TermId) (x : FunctionTyped) (j : JudgeId) (y : TermFault) (g : InferFault) (w w1 w2 : Account)
     → Continues a b → Continues b c → IsTermAt a.items u
     → IsFunctionTyped a b (function_reading (env a) (part_reading nest (env a)) a.context (tree_at a.items f)) f w w1 x
-    → IsSuited b c (argument_reading (env b) (count b.context) (part_reading nest (env b) b.context) Arg (Appl, 2) (tree_at b.items x.domain) (tree_at b.items u)) (tree_at b.items u) (tree_at b.items x.domain) w1 w2 j
+    → IsSuited b c (argument_reading (env b) (Compares (env b) (nest + 1)) (count b.context) (part_reading nest (env b) b.context) Arg (Appl, 2) (tree_at b.items x.domain) (tree_at b.items u)) (tree_at b.items u) (tree_at b.items x.domain) w1 w2 j
     → (y ≡ term.High → ¬ IsSmall (One (put (tree_at c.items x.range) (Nil ▸ tree_at c.items u)))) → g ≡ fault.Stop (stop_of y)
-    → Stops d.items (application_reading (env a) (part_reading nest (env a)) a.context (tree_at a.items f) (tree_at a.items u)) g w w2
+    → Stops d.items (application_reading (env a) (Compares (env a) (nest + 1)) (part_reading nest (env a)) a.context (tree_at a.items f) (tree_at a.items u)) g w w2
 application_high a b c d nest f u x j y g w w1 w2 goes more at h s high e =
     let P : Tree → Type 0 = λ r. y ≡ term.High → ¬ IsSmall (One (put r (Nil ▸ tree_at c.items u))) in
     let Q : Tree → Type 0 = λ v. y ≡ term.High → ¬ IsSmall (One (put (tree_at b.items x.range) (Nil ▸ v))) in
-    application_stops_formed (env a) (part_reading nest (env a)) a.context d.items (tree_at a.items f) (tree_at a.items u) (tree_at b.items x.domain) (tree_at b.items x.range) y g w w1 w2 h.gives
+    application_stops_formed (env a) (Compares (env a) (nest + 1)) (part_reading nest (env a)) a.context d.items (tree_at a.items f) (tree_at a.items u) (tree_at b.items x.domain) (tree_at b.items x.range) y g w w1 w2 h.gives
     (argument_moved a b nest u (tree_at b.items x.domain) (λ p. Comes p (Gives tt) w1 w2) goes at s.gives)
     (subst Q (tree_stays a c u (continues_trans a b c goes more) at) (subst P (tree_stays b c x.range more h.range) high)) e
 
 pub application_typed : (a b c d k : Standing) (nest : ℕ) (t f u : TermId) (x : FunctionTyped) (j : JudgeId) (of : TermId) (judge : JudgeId) (w w1 w2 : Account)
     → Continues a b → Continues b c → Continues c d → Continues d k → IsTermAt a.items t → IsTermAt a.items u
     → IsFunctionTyped a b (function_reading (env a) (part_reading nest (env a)) a.context (tree_at a.items f)) f w w1 x
-    → IsSuited b c (argument_reading (env b) (count b.context) (part_reading nest (env b) b.context) Arg (Appl, 2) (tree_at b.items x.domain) (tree_at b.items u)) (tree_at b.items u) (tree_at b.items x.domain) w1 w2 j
+    → IsSuited b c (argument_reading (env b) (Compares (env b) (nest + 1)) (count b.context) (part_reading nest (env b) b.context) Arg (Appl, 2) (tree_at b.items x.domain) (tree_at b.items u)) (tree_at b.items u) (tree_at b.items x.domain) w1 w2 j
     → IsTermAt d.items of → tree_at d.items of ≡ put (tree_at c.items x.range) (Nil ▸ tree_at c.items u) → IsSmall (One (tree_at d.items of))
     → Knows (known k) judge (here d (tree_at d.items t) (tree_at d.items of))
-    → IsTyped a k (application_reading (env a) (part_reading nest (env a)) a.context (tree_at a.items f) (tree_at a.items u)) t w w2 (record { of = of; judge = judge; of_judge = None })
+    → IsTyped a k (application_reading (env a) (Compares (env a) (nest + 1)) (part_reading nest (env a)) a.context (tree_at a.items f) (tree_at a.items u)) t w w2 (record { of = of; judge = judge; of_judge = None })
 application_typed a b c d k nest t f u x j of judge w w1 w2 goes more next last at_t at_u h s at is small knows =
     let to_c = continues_trans a b c goes more in
     let to_d = continues_trans a c d to_c next in
@@ -100,12 +100,12 @@ application_typed a b c d k nest t f u x j of judge w w1 w2 goes more next last 
     let same : tree_at k.items of ≡ type =
     tree_stays d k of last at ∙ is ∙ ap (λ r. put r (Nil ▸ tree_at c.items u)) (tree_stays b c x.range more h.range)
     ∙ ap (λ v. put (tree_at b.items x.range) (Nil ▸ v)) (tree_stays a c u to_c at_u) in
-    let P : Tree → Type 0 = λ y. Comes (application_reading (env a) (part_reading nest (env a)) a.context (tree_at a.items f) (tree_at a.items u)) (Gives (found y false)) w w2 in
+    let P : Tree → Type 0 = λ y. Comes (application_reading (env a) (Compares (env a) (nest + 1)) (part_reading nest (env a)) a.context (tree_at a.items f) (tree_at a.items u)) (Gives (found y false)) w w2 in
     let Q : Tree → Type 0 = λ y. IsSmall (One y) in
     record {
       term = term_stays d k of last at;
       gives = subst P (sym same)
-          (application_given (env a) (part_reading nest (env a)) a.context (tree_at a.items f) (tree_at a.items u) (tree_at b.items x.domain) (tree_at b.items x.range) w w1 w2 h.gives
+          (application_given (env a) (Compares (env a) (nest + 1)) (part_reading nest (env a)) a.context (tree_at a.items f) (tree_at a.items u) (tree_at b.items x.domain) (tree_at b.items x.range) w w1 w2 h.gives
           (argument_moved a b nest u (tree_at b.items x.domain) (λ p. Comes p (Gives tt) w1 w2) goes at_u s.gives) (subst Q (sym (tree_stays d k of last at) ∙ same) small));
       judged = known_here a d k judge (tree_at d.items t) (tree_at a.items t) (tree_at d.items of) (tree_at k.items of) to_d (tree_stays a d t to_d at_t) (sym (tree_stays d k of last at)) knows;
       sorted = tt;

@@ -28,6 +28,7 @@ use Rattle.ld_record.proofs.Judged.{live_later, judges_later}
 use Rattle.ld_infer.specs.declared.failure.RuleName.{RuleName}
 use Rattle.ld_infer.specs.declared.failure.InferFault.{InferFault}
 use Rattle.ld_infer.specs.declared.failure.InferFault.TheVariants as fault
+use Rattle.ld_convert.specs.Compares.{Compares}
 use Rattle.ld_infer.specs.Account.{Account, Comes}
 use Rattle.ld_reduce.specs.Task.{Task, Gives}
 use Rattle.ld_infer.specs.Reading.{Refusal, Found, found, part_reading, arguments, instance_rule, instance_reading}
@@ -151,24 +152,24 @@ instance_follows b items k None star js us step below knows live judged is by =
 -- Instances: the standings are those at the start, behind the arguments, the type, the judgement of `*`, and that of the
 -- instance.
 abbrev pub arguments_task : (a : Standing) (nest k : ℕ) (us : Trees) → Task Refusal (Unit {0})
-arguments_task a nest k us = arguments (env a) (count a.context) (part_reading nest (env a) a.context) (instance_rule (entry_at (env a) k).body) (entry_at (env a) k).params us
+arguments_task a nest k us = arguments (env a) (Compares (env a) (nest + 1)) (count a.context) (part_reading nest (env a) a.context) (instance_rule (entry_at (env a) k).body) (entry_at (env a) k).params us
 
 abbrev pub instance_task : (a : Standing) (nest k : ℕ) (us : Trees) → Task Refusal Found
-instance_task a nest k us = instance_reading (env a) (part_reading nest (env a)) a.context (slice_get (env a) k) us
+instance_task a nest k us = instance_reading (env a) (Compares (env a) (nest + 1)) (part_reading nest (env a)) a.context (slice_get (env a) k) us
 
 -- the rule that was asked for is that of the entry
 pub rule_moved : (a : Standing) (nest k : ℕ) (us : Trees) (entry : Entry) (rule : RuleName) (P : Task Refusal (Unit {0}) → Type 0) → IsEntry a k entry
     → rule ≡ instance_rule (body_of a.items entry.body)
-    → P (arguments (env a) (count a.context) (part_reading nest (env a) a.context) rule (entry_at (env a) k).params us) → P (arguments_task a nest k us)
+    → P (arguments (env a) (Compares (env a) (nest + 1)) (count a.context) (part_reading nest (env a) a.context) rule (entry_at (env a) k).params us) → P (arguments_task a nest k us)
 rule_moved a nest k us entry rule P e is h =
-    let Q : RuleName → Type 0 = λ r. P (arguments (env a) (count a.context) (part_reading nest (env a) a.context) r (entry_at (env a) k).params us) in
+    let Q : RuleName → Type 0 = λ r. P (arguments (env a) (Compares (env a) (nest + 1)) (count a.context) (part_reading nest (env a) a.context) r (entry_at (env a) k).params us) in
     subst Q (is ∙ ap instance_rule (sym e.body)) h
 
 pub instance_refused : (a : Standing) (items : List Item) (nest k : ℕ) (us : Trees) (entry : Entry) (rule : RuleName) (g : InferFault) (w w' : Account) → IsEntry a k entry
     → rule ≡ instance_rule (body_of a.items entry.body)
-    → Stops items (arguments (env a) (count a.context) (part_reading nest (env a) a.context) rule (entry_at (env a) k).params us) g w w' → Stops items (instance_task a nest k us) g w w'
+    → Stops items (arguments (env a) (Compares (env a) (nest + 1)) (count a.context) (part_reading nest (env a) a.context) rule (entry_at (env a) k).params us) g w w' → Stops items (instance_task a nest k us) g w w'
 instance_refused a items nest k us entry rule g w w' e is h =
-    instance_stops (env a) (part_reading nest (env a)) a.context items (slice_get (env a) k) (entry_at (env a) k) us g w w' e.there
+    instance_stops (env a) (Compares (env a) (nest + 1)) (part_reading nest (env a)) a.context items (slice_get (env a) k) (entry_at (env a) k) us g w w' e.there
     (rule_moved a nest k us entry rule (λ p. Stops items p g w w') e is h)
 
 -- the type of the instance, in the trees of the start
@@ -179,12 +180,12 @@ put_moved a b k us entry e at goes =
 
 pub instance_high : (a b : Standing) (items : List Item) (nest k : ℕ) (us : TermId) (entry : Entry) (rule : RuleName) (js : List JudgeId) (y : TermFault) (g : InferFault) (w w' : Account)
     → IsEntry a k entry → IsListAt a.items us → Continues a b → rule ≡ instance_rule (body_of a.items entry.body)
-    → AreJudged a b (arguments (env a) (count a.context) (part_reading nest (env a) a.context) rule (entry_at (env a) k).params (list_at a.items us)) (entry_at (env a) k).params (list_at a.items us) w w' js
+    → AreJudged a b (arguments (env a) (Compares (env a) (nest + 1)) (count a.context) (part_reading nest (env a) a.context) rule (entry_at (env a) k).params (list_at a.items us)) (entry_at (env a) k).params (list_at a.items us) w w' js
     → (y ≡ term.High → ¬ IsSmall (One (put (tree_at b.items entry.of) (list_at b.items us)))) → g ≡ fault.Stop (stop_of y)
     → Stops items (instance_task a nest k (list_at a.items us)) g w w'
 instance_high a b items nest k us entry rule js y g w w' e at goes is h high by =
     let P : Tree → Type 0 = λ x. y ≡ term.High → ¬ IsSmall (One x) in
-    instance_stops_formed (env a) (part_reading nest (env a)) a.context items (slice_get (env a) k) (entry_at (env a) k) (list_at a.items us) y g w w' e.there
+    instance_stops_formed (env a) (Compares (env a) (nest + 1)) (part_reading nest (env a)) a.context items (slice_get (env a) k) (entry_at (env a) k) (list_at a.items us) y g w w' e.there
     (rule_moved a nest k (list_at a.items us) entry rule (λ p. Comes p (Gives tt) w w') e is h.gives) (subst P (put_moved a b k us entry e at goes) high) by
 
 pub instance_ready : (a b c d : Standing) (k : ℕ) (t us of : TermId) (entry : Entry) (p : Task Refusal (Unit {0})) (w w' : Account) (star : JudgeId) (js : List JudgeId) (step : Step) → IsEntry a k entry
@@ -214,7 +215,7 @@ instance_ready a b c d k t us of entry p w w' star js step e at term is below go
 
 pub instance_typed : (a b c d f : Standing) (nest k : ℕ) (t us of : TermId) (entry : Entry) (rule : RuleName) (w w' : Account) (js : List JudgeId) (judge : JudgeId) → IsEntry a k entry
     → IsListAt a.items us → IsTermAt a.items t → rule ≡ instance_rule (body_of a.items entry.body) → Continues a b → Continues b c → Continues c d → Continues d f
-    → AreJudged a b (arguments (env a) (count a.context) (part_reading nest (env a) a.context) rule (entry_at (env a) k).params (list_at a.items us)) (entry_at (env a) k).params (list_at a.items us) w w' js
+    → AreJudged a b (arguments (env a) (Compares (env a) (nest + 1)) (count a.context) (part_reading nest (env a) a.context) rule (entry_at (env a) k).params (list_at a.items us)) (entry_at (env a) k).params (list_at a.items us) w w' js
     → IsTermAt c.items of → tree_at c.items of ≡ put (tree_at b.items entry.of) (list_at b.items us) → IsSmall (One (tree_at c.items of))
     → Knows (known f) judge (here d (tree_at d.items t) (tree_at d.items of))
     → IsTyped a f (instance_task a nest k (list_at a.items us)) t w w' (record { of = of; judge = judge; of_judge = None })
@@ -229,7 +230,7 @@ instance_typed a b c d f nest k t us of entry rule w w' js judge e at term is go
     record {
       term = term_stays c f of to_f at_of;
       gives = subst P (sym same)
-          (instance_given (env a) (part_reading nest (env a)) a.context (slice_get (env a) k) (entry_at (env a) k) vs w w' e.there
+          (instance_given (env a) (Compares (env a) (nest + 1)) (part_reading nest (env a)) a.context (slice_get (env a) k) (entry_at (env a) k) vs w w' e.there
           (rule_moved a nest k vs entry rule (λ p. Comes p (Gives tt) w w') e is h.gives) (subst Q type small));
       judged = known_here a d f judge (tree_at d.items t) (tree_at a.items t) (tree_at d.items of) (tree_at f.items of) to_d (tree_stays a d t to_d term)
           (sym (tree_stays d f of last (term_stays c d of next at_of))) knows;

@@ -2,6 +2,7 @@ pub mod Accounts
 pub mod Contexts
 pub mod Theories
 pub mod Going
+pub mod Pairs
 pub mod Weakening
 pub mod Concluding
 pub mod Stopping
@@ -19,5 +20,16 @@ pub mod Prefixing
 pub mod HeadScopes
 pub mod Exposure
 pub mod Instances
+pub mod Putting
+pub mod Parameters
+pub mod Comparing
 pub mod Judging
 pub mod Closed
+pub mod Once
+pub mod ExposedHeads
+pub mod TypesRead
+pub mod Refused
+pub mod SortsRead
+pub mod PartsRead
+pub mod FormsRead
+pub mod Rightness

@@ -8,31 +8,29 @@ use Rattle.ld_infer.specs.declared.failure.InferFault.{InferFault}
 use Rattle.ld_infer.specs.declared.failure.InferFault.TheVariants as fault
 use Rattle.ld_reduce.specs.declared.stop.Stop.{Stop}
 use Rattle.ld_reduce.specs.declared.stop.Stop.TheVariants as stop
-use Rattle.ld_reduce.specs.Task.{Pairs, Task, Gives, Fails, High, Nested, NotBuilt, Answers, gives, fails, not_built, step, Ends}
+use Rattle.ld_reduce.specs.Task.{Pairs, Task, Gives, Fails, High, Nested, Answers, gives, fails, step, Ends}
+use Rattle.ld_convert.specs.Compares.{Compares}
 use Rattle.ld_infer.specs.Account.{Account, Takes, Comes}
 use Rattle.ld_infer.specs.Reading.{Asked, Again, Refusal, refusal, Found, found, sort_in, sort_of, again, reading, read_within, Types, part_reading}
 use Rattle.ld_infer.specs.Infers.{Stops, StopsBy, IsToldAs, refusal_of}
-use Rattle.ld_reduce.proofs.Tasks.{gives_answers, fails_answers, not_built_answers, step_answers}
+use Rattle.ld_reduce.proofs.Tasks.{gives_answers, fails_answers, step_answers}
 use Rattle.ld_infer.proofs.Accounts.{comes_at_once, comes_then, comes_ended, comes_faulted, runs_out_first, runs_out_then, runs_out_faulted}
 use Rattle.ld_infer.proofs.Stopping.{stops_first, refused_by}
 
--- a value that is given at once, a fault, and a form that is not built
+-- a value that is given at once, and a fault
 pub gives_now : {E X : Type 0} (x : X) (w : Account) → Comes {E = E} (gives x) (Gives x) w w
 gives_now x w = comes_at_once (gives x) (Gives x) w (gives_answers x w.known)
 
 pub fails_now : {E X : Type 0} (e : E) (w : Account) → Comes {X = X} (fails e) (Fails e) w w
 fails_now e w = comes_at_once (fails e) (Fails e) w (fails_answers e w.known)
 
-pub not_built_now : {E X : Type 0} (w : Account) → Comes {E = E} {X = X} not_built NotBuilt w w
-not_built_now w = comes_at_once not_built NotBuilt w (not_built_answers w.known)
-
 -- at a nesting that is not passed, the reading of a term is that by its form
 pub reads : (Δ : Env) (ctx : Trees) (nest : ℕ) (q : Asked) (t t' : Tree) (P : Task Refusal Found → Type 0) → nest ≤ 1000 → t ≡ t'
-    → P (reading Δ (part_reading nest Δ) ctx q t') → P (Types Δ ctx nest q t)
+    → P (reading Δ (Compares Δ (nest + 1)) (part_reading nest Δ) ctx q t') → P (Types Δ ctx nest q t)
 reads Δ ctx nest q t t' P less same h =
     let left : 1001 - nest ≡ suc (1001 - (nest + 1)) = omega (arith, less) in
     let Q : ℕ → Type 0 = λ n. P (read_within n Δ ctx q t) in
-    let R : Tree → Type 0 = λ x. P (reading Δ (part_reading nest Δ) ctx q x) in
+    let R : Tree → Type 0 = λ x. P (reading Δ (Compares Δ (nest + 1)) (part_reading nest Δ) ctx q x) in
     subst Q (sym left) (subst R (sym same) h)
 
 -- where a question asks whether a tree is a sort
@@ -86,10 +84,6 @@ module _ (Δ : Env) (depth : ℕ) (read : Asked → Tree → Task Refusal Found)
       refused_by items (again Δ depth read q t) (refusal q depth Again) g w w2 is (again_fails t (refusal_of items x) w w1 w2 takes known h)
   again_stops items t (fault.Stop s) g w w1 w2 takes known h is =
       let P : InferFault → Type 0 = λ x. Stops items (again Δ depth read q t) x w w2 in subst P (sym is) (again_stop t s w w1 w2 takes known h)
-  again_stops items t fault.NotBuilt g w w1 w2 takes known h is =
-      let P : InferFault → Type 0 = λ x. Stops items (again Δ depth read q t) x w w2 in
-      subst P (sym is) (comes_ended _ _ NotBuilt NotBuilt w w2
-      (comes_then step _ tt NotBuilt w w1 w2 (one_step w w1 takes known) (comes_faulted (λ _. refusal q depth Again) (sort_of Δ depth read q t) NotBuilt w1 w2 h)) Ends.unbuilt)
 
 -- the answer is a fault that was passed on
 pub at_fault : {X : Type 0} (P : Result X InferFault → Type 0) (r : Result X InferFault) (f g : InferFault) → r ≡ Err g → g ≡ f → P (Err f) → P r

@@ -23,7 +23,7 @@ use Rattle.ld_record.specs.Growth.{Knows, KnowsContext, Adds, over_first}
 use Rattle.ld_record.proofs.Growing.{known_later, sound_later}
 use Rattle.ld_reduce.specs.Cost.{Goes}
 use Rattle.ld_infer.specs.declared.theory.Level.{Level}
-use Rattle.ld_infer.specs.declared.theory.Variable.{Variable}
+use Rattle.ld_infer.specs.declared.variable.Variable.{Variable}
 use Rattle.ld_infer.specs.Theory.{types_of, context_of, IsJudgedIn, IsLevel, IsVariable, no_level, no_variable, level_at, variable_at, AreLevels, IsTheory}
 use Rattle.ld_infer.proofs.Contexts.{context_of-later, context_of-push, context_of-same}
 

@@ -12,7 +12,7 @@ use Rattle.ld_record.specs.Growth.{Knows}
 use Rattle.ld_infer.specs.declared.failure.InferFault.{InferFault}
 use Rattle.ld_infer.specs.declared.failure.InferFault.TheVariants as fault
 use Rattle.ld_infer.specs.declared.inference.Typed.{Typed}
-use Rattle.ld_infer.specs.declared.theory.VariableTyped.{VariableTyped}
+use Rattle.ld_infer.specs.declared.variable.VariableTyped.{VariableTyped}
 use Rattle.ld_reduce.specs.Task.{Gives}
 use Rattle.ld_infer.specs.Account.{Account, Comes}
 use Rattle.ld_infer.specs.Reading.{type_in, lifted, variable_reading, found}

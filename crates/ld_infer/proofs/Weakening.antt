@@ -7,7 +7,7 @@ use Rattle.ld_terms.specs.Item.{One, IsSmall, height, greatest_height, greatest_
 use Rattle.ld_terms.specs.Put.{lift, lift_all}
 use Rattle.ld_terms.specs.Bank.{tree_at}
 use Rattle.ld_record.specs.Growth.{Knows}
-use Rattle.ld_infer.specs.declared.theory.VariableTyped.{VariableTyped}
+use Rattle.ld_infer.specs.declared.variable.VariableTyped.{VariableTyped}
 use Rattle.ld_infer.specs.Reading.{type_in, lifted}
 use Rattle.ld_infer.specs.Standing.{Standing, known, Continues, here, without}
 use Rattle.ld_infer.specs.Variables.{judged_in, IsTypedIn, IsHighIn}

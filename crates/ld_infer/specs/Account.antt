@@ -1,6 +1,7 @@
 -- How many steps a check may make and has made, and what it answers within them.
-use Rattle.std.specs.Prelude.{◌≡◌, ◌<◌, ◌+◌, ℕ, []}
+use Rattle.std.specs.Prelude.{◌≡◌, ◌<◌, ◌+◌, ℕ}
 use Rattle.ld_reduce.specs.Task.{Pairs, Answer, Task, Answers}
+use Rattle.ld_reduce.specs.Work.{Work}
 
 -- the steps that are left, those that were made, and the pairs that are known
 pub record Account : Type 0 where
@@ -8,8 +9,8 @@ pub record Account : Type 0 where
   pub spent : ℕ
   pub known : Pairs
 
-abbrev pub account : (left spent : ℕ) → Account
-account left spent = record { left = left; spent = spent; known = [] }
+abbrev pub account_by : Work → Pairs → Account
+account_by work known = record { left = work.left; spent = work.spent; known = known }
 
 -- so many steps were made, of those that were left
 pub record Takes (old new : Account) (n : ℕ) : Type 0 where

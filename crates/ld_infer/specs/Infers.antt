@@ -17,6 +17,10 @@ use Rattle.ld_record.specs.declared.record.Step.TheVariants.{Inst, InstPrim}
 use Rattle.ld_record.specs.Follows.{numbers_of}
 use Rattle.ld_record.specs.Growth.{Knows}
 use Rattle.ld_reduce.specs.Cost.{Equates}
+use Rattle.ld_convert.specs.Apart.{apart}
+use Rattle.ld_convert.specs.Compares.{Compares}
+use Rattle.ld_convert.specs.declared.job.Compared.{Compared}
+use Rattle.ld_convert.specs.declared.job.Compared.TheVariants as compared
 use Rattle.ld_infer.specs.declared.failure.Why.{Why}
 use Rattle.ld_infer.specs.declared.failure.Why.TheVariants as why
 use Rattle.ld_infer.specs.declared.failure.Failure.{Failure}
@@ -28,8 +32,8 @@ use Rattle.ld_infer.specs.declared.failure.PathStep.{PathStep}
 use Rattle.ld_infer.specs.declared.inference.Typed.{Typed}
 use Rattle.ld_infer.specs.declared.inference.BodyTyped.{BodyTyped}
 use Rattle.ld_infer.specs.declared.function.FunctionTyped.{FunctionTyped}
-use Rattle.ld_infer.specs.declared.theory.VariableTyped.{VariableTyped}
-use Rattle.ld_reduce.specs.Task.{Task, Gives, Fails, High, Nested, NotBuilt}
+use Rattle.ld_infer.specs.declared.variable.VariableTyped.{VariableTyped}
+use Rattle.ld_reduce.specs.Task.{Task, Gives, Fails, High, Nested}
 use Rattle.ld_infer.specs.Account.{Account, Comes, RunsOut}
 use Rattle.ld_infer.specs.Reading.{Reason, NoType, NotSort, NotFunction, BoxBody, NotSame, Again, Refusal, Found, found, type_in, exposed}
 use Rattle.ld_infer.specs.Standing.{Standing, known, env, here, without, KnowsSort}
@@ -41,14 +45,14 @@ reason_of items (why.NotSort t) = NotSort (tree_at items t)
 reason_of items (why.NotFunction t) = NotFunction (tree_at items t)
 reason_of items why.BoxBody = BoxBody
 reason_of items (why.NotSame t wanted left right under) =
-    NotSame (tree_at items t) (tree_at items wanted) (record { left = tree_at items left; right = tree_at items right; under = under })
+    NotSame (tree_at items t) (tree_at items wanted) (apart (tree_at items left) (tree_at items right) under)
 reason_of items why.Again = Again
 
 abbrev pub refusal_of : List Item → Failure → Refusal
 refusal_of items f = record { rule = f.rule; premise = f.premise; path = f.path; depth = f.depth; reason = reason_of items f.why }
 
 -- The task ends with what a fault says. Want of memory is free.
-abbrev pub StopsBy : {X : Type 0} → Task Refusal X → Stop → (before after : Account) → Type 0
+abbrev pub StopsBy : {E X : Type 0} → Task E X → Stop → (before after : Account) → Type 0
 StopsBy p stop.Spent before after = RunsOut p before after
 StopsBy p stop.High before after = Comes p High before after
 StopsBy p stop.Nested before after = Comes p Nested before after
@@ -57,7 +61,6 @@ StopsBy p stop.Memory before after = ⊤
 abbrev pub Stops : {X : Type 0} → List Item → Task Refusal X → InferFault → (before after : Account) → Type 0
 Stops items p (fault.Refused f) before after = Comes p (Fails (refusal_of items f)) before after
 Stops items p (fault.Stop s) before after = StopsBy p s before after
-Stops items p fault.NotBuilt before after = Comes p NotBuilt before after
 
 -- A type was found, and the judgement of the term and the type is kept; where the type's sort comes, its judgement too.
 pub record IsTyped (old new : Standing) (p : Task Refusal Found) (t : TermId) (before after : Account) (r : Typed) : Type 0 where
@@ -87,6 +90,14 @@ pub record IsExposed (old new : Standing) (type : Tree) (before after : Account)
 abbrev pub Exposes : (old new : Standing) → (type : Tree) → (before after : Account) → Result (TermId × EqId) Stop → Type 0
 Exposes old new type before after (Ok r) = IsExposed old new type before after r
 Exposes old new type before after (Err s) = StopsBy (exposed (env old) type) s before after
+
+-- two types that are the same, with an equality over the entries that are there; or two terms that are apart
+abbrev pub ComparesTypes : (old new : Standing) → (nesting : ℕ) → (type wanted : Tree) → (before after : Account) → Result Compared Stop → Type 0
+ComparesTypes old new nesting type wanted before after (Ok (compared.Same e)) =
+    Comes (Compares (env old) nesting type wanted) (Gives tt) before after × Equates (known new) e type wanted (length (env old))
+ComparesTypes old new nesting type wanted before after (Ok (compared.Apart left right under)) =
+    Comes (Compares (env old) nesting type wanted) (Fails (apart (tree_at new.items left) (tree_at new.items right) under)) before after
+ComparesTypes old new nesting type wanted before after (Err s) = StopsBy (Compares (env old) nesting type wanted) s before after
 
 -- the sort of the term is what the task gives
 pub record IsSorted (old new : Standing) (p : Task Refusal Tree) (t : TermId) (before after : Account) (s : TermId × JudgeId) : Type 0 where
@@ -157,19 +168,16 @@ pub record ArePrefixes (items : List Item) (us : Trees) (lists : List TermId) : 
 abbrev pub IsRefusedBy : List Item → Refusal → InferFault → Type 0
 IsRefusedBy items r (fault.Refused f) = refusal_of items f ≡ r
 IsRefusedBy items r (fault.Stop s) = ⊥
-IsRefusedBy items r fault.NotBuilt = ⊥
 
 -- the fault of a type that is typed again: a refusal is told as this one
 abbrev pub IsToldAs : List Item → Refusal → (part whole : InferFault) → Type 0
 IsToldAs items r (fault.Refused f) whole = IsRefusedBy items r whole
 IsToldAs items r (fault.Stop s) whole = whole ≡ fault.Stop s
-IsToldAs items r fault.NotBuilt whole = whole ≡ fault.NotBuilt
 
 -- the fault of a part, told of the whole: the step stands in front of a refusal's path, unless memory runs out
 abbrev pub IsWithin : PathStep → (part whole : InferFault) → Type 0
 IsWithin step (fault.Refused f) whole = (whole ≡ fault.Refused (record f { path = step ∷ f.path })) ⊎ (whole ≡ fault.Stop stop.Memory)
 IsWithin step (fault.Stop s) whole = whole ≡ fault.Stop s
-IsWithin step fault.NotBuilt whole = whole ≡ fault.NotBuilt
 
 -- the type of a variable of the context, with a judgement of the variable and one of the type's sort
 pub record IsVariableTyped (old new : Standing) (i : ℕ) (v : VariableTyped) : Type 0 where

@@ -4,3 +4,7 @@ pub mod Standing
 pub mod Theory
 pub mod Variables
 pub mod Infers
+pub mod Laws
+pub mod Parts
+pub mod Refusals
+pub mod Rightness

@@ -10,17 +10,13 @@ use Rattle.ld_infer.specs.declared.failure.RuleName.TheVariants.{Form, Appl, Abs
 use Rattle.ld_infer.specs.declared.failure.PathStep.{PathStep}
 use Rattle.ld_infer.specs.declared.failure.PathStep.TheVariants.{Dom, Ran, Fun, Arg, Body, Nth}
 use Rattle.ld_reduce.specs.Heads.{Expose, reaches}
-use Rattle.ld_reduce.specs.Task.{Task, gives, fails, nested, not_built, no_answer, step, formed, ◌>>=◌, ◌>>◌, faults_by}
+use Rattle.ld_convert.specs.Apart.{Apart}
+use Rattle.ld_convert.specs.Compares.{compare_within}
+use Rattle.ld_reduce.specs.Task.{Task, gives, fails, nested, no_answer, step, formed, ◌>>=◌, ◌>>◌, faults_by}
 
 -- a rule and the number of a premise, for which a reading is asked
 abbrev pub Asked : Type 0
 Asked = RuleName × ℕ
-
--- two trees whose heads differ, under so many binders
-pub record Apart : Type 0 where
-  pub left : Tree
-  pub right : Tree
-  pub under : ℕ
 
 -- why a premise fails, with the trees that it speaks of
 pub data Reason : Type 0 where
@@ -82,10 +78,6 @@ type_in (ctx ▸ a) (suc i) = lifted (type_in ctx i)
 abbrev pub exposed : Env → Tree → Task Refusal Tree
 exposed env t = reaches (Expose env t)
 
--- The comparison of two trees is not built yet.
-abbrev pub compared : Env → Tree → Tree → Task Apart (Unit {0})
-compared env t u = not_built
-
 -- a refusal of the term itself, among so many variables
 abbrev pub refused : {X : Type 0} → (depth : ℕ) → Asked → Reason → Task Refusal X
 refused depth q reason = fails (refusal q depth reason)
@@ -113,14 +105,6 @@ module _ (env : Env) (depth : ℕ) (read : Asked → Tree → Task Refusal Found
   again_unless true q t = gives tt
   again_unless false q t = again q t
 
-  -- the type found is the one wanted, or is compared with it, and the one wanted is typed again
-  abbrev pub same_type : Asked → (type wanted : Tree) → Task Refusal (Unit {0})
-  same_type q type wanted = faults_by (λ d. refusal q depth (NotSame type wanted d)) (compared env type wanted)
-
-  abbrev pub suits : (equal : Bool) → Asked → (type wanted : Tree) → Task Refusal (Unit {0})
-  suits true q type wanted = gives tt
-  suits false q type wanted = same_type q type wanted >> again q wanted
-
   -- the product that a type is, or that it exposes; in that case it is typed again
   abbrev pub exposed_product : Option (Tree × Tree) → Asked → (type : Tree) → Task Refusal (Tree × Tree)
   exposed_product (Some p) q type = again q (Pi p.0 p.1) >> gives p
@@ -130,9 +114,22 @@ module _ (env : Env) (depth : ℕ) (read : Asked → Tree → Task Refusal Found
   product_in (Some p) q type = gives p
   product_in None q type = exposed env type >>= λ t. exposed_product (product_of t) q type
 
+-- And compare is the comparison of a part's type with the one that is wanted.
+module _ (env : Env) (compare : Tree → Tree → Task Apart (Unit {0})) (depth : ℕ) (read : Asked → Tree → Task Refusal Found) where
+  -- the type found is the one wanted, or is compared with it, and the one wanted is typed again
+  abbrev pub same_type : Asked → (type wanted : Tree) → Task Refusal (Unit {0})
+  same_type q type wanted = faults_by (λ d. refusal q depth (NotSame type wanted d)) (compare type wanted)
+
+  abbrev pub suits : (equal : Bool) → Asked → (type wanted : Tree) → Task Refusal (Unit {0})
+  suits true q type wanted = gives tt
+  suits false q type wanted = same_type q type wanted >> again env depth read q wanted
+
   -- the reading of an argument, which is to have the type that is wanted
+  abbrev pub suited_reading : Asked → (wanted u : Tree) → Task Refusal (Unit {0})
+  suited_reading q wanted u = read q u >>= λ r. suits (equals r.type wanted) q r.type wanted
+
   abbrev pub argument_reading : PathStep → Asked → (wanted u : Tree) → Task Refusal (Unit {0})
-  argument_reading s q wanted u = within s (read q u >>= λ r. suits (equals r.type wanted) q r.type wanted)
+  argument_reading s q wanted u = within s (suited_reading q wanted u)
 
   -- The argument behind so many is to have its parameter's type, with those put in.
   abbrev pub next_argument : RuleName → (p : Tree) → (us : Trees) → (u : Tree) → Task Refusal (Unit {0})
@@ -187,31 +184,33 @@ module _ (env : Env) (read : Trees → Asked → Tree → Task Refusal Found) (c
   abbrev pub function_reading : (f : Tree) → Task Refusal (Tree × Tree)
   function_reading f = within Fun (product_read f)
 
+-- And compare is the comparison of a part's type with the one that is wanted.
+module _ (env : Env) (compare : Tree → Tree → Task Apart (Unit {0})) (read : Trees → Asked → Tree → Task Refusal Found) (ctx : Trees) where
   abbrev pub application_reading : (f u : Tree) → Task Refusal Found
   application_reading f u =
-      function_reading f >>= λ p.
-      argument_reading env (count ctx) (read ctx) Arg (Appl, 2) p.0 u >>
+      function_reading env read ctx f >>= λ p.
+      argument_reading env compare (count ctx) (read ctx) Arg (Appl, 2) p.0 u >>
       (formed (put p.1 (Nil ▸ u)) >>= λ n. gives (found n false))
 
   abbrev pub instance_reading : Option Entry → (us : Trees) → Task Refusal Found
   instance_reading None us = no_answer
   instance_reading (Some e) us =
-      arguments env (count ctx) (read ctx) (instance_rule e.body) e.params us >>
+      arguments env compare (count ctx) (read ctx) (instance_rule e.body) e.params us >>
       (formed (put e.type us) >>= λ n. gives (found n false))
 
   abbrev pub reading : Asked → Tree → Task Refusal Found
   reading q Star = gives (found Box false)
   reading q Box = refused (count ctx) q NoType
   reading q (Var i) = variable_reading (type_in ctx i)
-  reading q (Pi a b) = product_reading a b
-  reading q (Lam a m) = abstraction_reading a m
+  reading q (Pi a b) = product_reading env read ctx a b
+  reading q (Lam a m) = abstraction_reading env read ctx a m
   reading q (App f u) = application_reading f u
   reading q (Const k us) = instance_reading (slice_get env k) us
 
 -- the reading where so many nestings are left
 abbrev pub read_within : (left : ℕ) → Env → Trees → Asked → Tree → Task Refusal Found
 read_within zero env ctx q t = nested
-read_within (suc left) env ctx q t = reading env (read_within left env) ctx q t
+read_within (suc left) env ctx q t = reading env (compare_within left env) (read_within left env) ctx q t
 
 -- the reading of a term at nesting m, and the sort that it has
 abbrev pub Types : Env → (ctx : Trees) → (m : ℕ) → Asked → Tree → Task Refusal Found

@@ -12,6 +12,10 @@ use Rattle.ld_record.specs.declared.record.JudgeId.{JudgeId}
 use Rattle.ld_record.specs.declared.record.Kept.{Kept}
 use Rattle.ld_record.specs.Kept.{known_of, Begins}
 use Rattle.ld_record.specs.Growth.{Knows, Adds}
+use Rattle.ld_convert.specs.Pairs.{pairs_of, ArePairsLive}
+use Rattle.ld_convert.specs.declared.job.Job.{Job}
+use Rattle.ld_convert.specs.declared.known.Pair.{Pair}
+use Rattle.ld_infer.specs.Account.{Account, account_by}
 
 -- what the numbers of the bank stand for, the records that are kept, the entries with their names, and the context
 pub record Standing : Type 0 where
@@ -48,6 +52,14 @@ pub record KnowsSort (s : Standing) (j : JudgeId) (t : Tree) : Type 0 where
 pub record KnowsType (s : Standing) (j : JudgeId) (type : Tree) : Type 0 where
   pub term : Tree
   pub knows : Knows (known s) j (here s term type)
+
+-- what a job may do and has done; its pairs are of the standing's terms
+abbrev pub account : Standing → Job → Account
+account s job = account_by job.budget (pairs_of s.items job.known)
+
+-- the pairs are of terms, and each has an equality that is kept, over the entries that are there
+pub record KnowsPairs (s : Standing) (pairs : List Pair) : Type 0 where
+  pub live : ArePairsLive s.items (known s) (length (env s)) pairs
 
 -- One variable is added at the end of the context.
 pub record Enters (old new : Standing) (a : Tree) : Type 0 where

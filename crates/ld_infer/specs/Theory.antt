@@ -12,7 +12,7 @@ use Rattle.ld_record.specs.declared.record.JudgeId.{JudgeId}
 use Rattle.ld_record.specs.declared.record.Kept.{Kept}
 use Rattle.ld_record.specs.Kept.{known_of, IsSound}
 use Rattle.ld_infer.specs.declared.theory.Level.{Level}
-use Rattle.ld_infer.specs.declared.theory.Variable.{Variable}
+use Rattle.ld_infer.specs.declared.variable.Variable.{Variable}
 
 abbrev pub types_of : List Variable → List TermId
 types_of variables = map (λ v. v.of) variables

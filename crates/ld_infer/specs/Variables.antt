@@ -7,8 +7,8 @@ use Rattle.ld_terms.specs.Derivable.{IsSort}
 use Rattle.ld_terms.specs.Known.{Judgement}
 use Rattle.ld_record.specs.declared.record.JudgeId.{JudgeId}
 use Rattle.ld_record.specs.Growth.{Knows}
-use Rattle.ld_infer.specs.declared.theory.Variable.{Variable}
-use Rattle.ld_infer.specs.declared.theory.VariableTyped.{VariableTyped}
+use Rattle.ld_infer.specs.declared.variable.Variable.{Variable}
+use Rattle.ld_infer.specs.declared.variable.VariableTyped.{VariableTyped}
 use Rattle.ld_infer.specs.Reading.{type_in}
 use Rattle.ld_infer.specs.Standing.{Standing, known, env, without}
 

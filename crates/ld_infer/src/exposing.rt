@@ -4,14 +4,14 @@ ghost use Rattle.ld_terms.specs.Tree.{count};
 ghost use Rattle.ld_terms.specs.Bank.{tree_at, IsTermAt};
 ghost use Rattle.ld_record.specs.Growth.{Knows};
 ghost use Rattle.ld_infer.specs.Reading.{sort_in};
-ghost use Rattle.ld_infer.specs.Standing.{known, env, here, Continues};
+ghost use Rattle.ld_infer.specs.Standing.{known, env, here, account, Continues, KnowsPairs};
 ghost use Rattle.ld_infer.specs.Infers.{InfersSort};
 
 use crate::failure::{InferFault, RuleName, Why};
 use crate::inference::Typed;
-use crate::job::Job;
 use crate::refusal::refusal;
 use crate::theory::Theory;
+use ld_convert::Job;
 use ld_record::{JudgeId, Step};
 use ld_terms::{Node, TermId};
 use std::alloc::Global;
@@ -29,10 +29,12 @@ pub(crate) fn exposed_sort(
     requires of { IsTermAt theory.old.items typed.of }
     requires judge { Knows (known theory.old) typed.judge (here theory.old (tree_at theory.old.items t) (tree_at theory.old.items typed.of)) }
     requires room { count theory.old.context < 2 ^ 32 }
+    requires pairs { KnowsPairs theory.old job.old.known }
     ensures answer { InfersSort theory.old theory.new
-        (sort_in (env theory.old) (count theory.old.context) false asked (tree_at theory.old.items typed.of)) t job.old job.new result }
+        (sort_in (env theory.old) (count theory.old.context) false asked (tree_at theory.old.items typed.of)) t (account theory.old job.old) (account theory.new job.new) result }
     ensures continues { Continues theory.old theory.new }
-    ensures most { job.new.left ≤ job.old.left }
+    ensures pairs { KnowsPairs theory.new job.new.known }
+    ensures most { job.new.budget.left ≤ job.old.budget.left }
 {
     let (sort, equal) = theory.expose(typed, job)?;
     match theory.bank().node(sort) {

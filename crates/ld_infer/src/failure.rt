@@ -132,9 +132,6 @@ pub enum InferFault {
     Refused(Failure),
     #[error("the check stops")]
     Stop(Stop),
-    /// A comparison of two types that aren't equal trees is wanted.
-    #[error("the form is not built")]
-    NotBuilt,
 }
 
 impl From<Stop> for InferFault {

@@ -4,15 +4,15 @@ ghost use Rattle.ld_terms.specs.Tree.{count};
 ghost use Rattle.ld_terms.specs.Bank.{tree_at, IsTermAt};
 ghost use Rattle.ld_record.specs.Growth.{Knows};
 ghost use Rattle.ld_infer.specs.Reading.{part_reading, product_in, product_read, function_reading};
-ghost use Rattle.ld_infer.specs.Standing.{known, env, here, Continues};
+ghost use Rattle.ld_infer.specs.Standing.{known, env, here, account, Continues, KnowsPairs};
 ghost use Rattle.ld_infer.specs.Infers.{InfersFunction, IsReadable};
 ghost use Rattle.ld_infer.specs.declared.failure.RuleName.TheVariants as rule;
 
 use crate::failure::{InferFault, PathStep, RuleName, Why};
 use crate::inference::{Typed, infer, type_again};
-use crate::job::Job;
 use crate::refusal::{refusal, within};
 use crate::theory::Theory;
+use ld_convert::Job;
 use ld_record::{JudgeId, Step};
 use ld_terms::{Node, TermId};
 use std::alloc::Global;
@@ -37,10 +37,12 @@ pub(crate) fn function_type(
     requires term { IsReadable theory.old f }
     requires nest { nest ≤ 1000 }
     requires room { count theory.old.context + 1000 < 2 ^ 32 + nest }
+    requires pairs { KnowsPairs theory.old job.old.known }
     ensures answer { InfersFunction theory.old theory.new
-        (function_reading (env theory.old) (part_reading nest (env theory.old)) theory.old.context (tree_at theory.old.items f)) f job.old job.new result }
+        (function_reading (env theory.old) (part_reading nest (env theory.old)) theory.old.context (tree_at theory.old.items f)) f (account theory.old job.old) (account theory.new job.new) result }
     ensures continues { Continues theory.old theory.new }
-    ensures most { job.new.left ≤ job.old.left }
+    ensures pairs { KnowsPairs theory.new job.new.known }
+    ensures most { job.new.budget.left ≤ job.old.budget.left }
 {
     match product_type(alloc, theory, f, nest, job) {
         Ok(function) => Ok(function),
@@ -60,10 +62,12 @@ fn product_type(
     requires term { IsReadable theory.old f }
     requires nest { nest ≤ 1000 }
     requires room { count theory.old.context + 1000 < 2 ^ 32 + nest }
+    requires pairs { KnowsPairs theory.old job.old.known }
     ensures answer { InfersFunction theory.old theory.new
-        (product_read (env theory.old) (part_reading nest (env theory.old)) theory.old.context (tree_at theory.old.items f)) f job.old job.new result }
+        (product_read (env theory.old) (part_reading nest (env theory.old)) theory.old.context (tree_at theory.old.items f)) f (account theory.old job.old) (account theory.new job.new) result }
     ensures continues { Continues theory.old theory.new }
-    ensures most { job.new.left ≤ job.old.left }
+    ensures pairs { KnowsPairs theory.new job.new.known }
+    ensures most { job.new.budget.left ≤ job.old.budget.left }
 {
     let typed = infer(alloc, theory, (RuleName::Appl, 1), f, nest + 1, job)?;
     match theory.bank().node(typed.of) {
@@ -91,10 +95,12 @@ fn exposed_product(
     requires judge { Knows (known theory.old) typed.judge (here theory.old (tree_at theory.old.items f) (tree_at theory.old.items typed.of)) }
     requires nest { nest ≤ 1000 }
     requires room { count theory.old.context + 1000 < 2 ^ 32 + nest }
+    requires pairs { KnowsPairs theory.old job.old.known }
     ensures answer { InfersFunction theory.old theory.new
-        (product_in (env theory.old) (count theory.old.context) (part_reading nest (env theory.old) theory.old.context) None (rule.Appl, 1) (tree_at theory.old.items typed.of)) f job.old job.new result }
+        (product_in (env theory.old) (count theory.old.context) (part_reading nest (env theory.old) theory.old.context) None (rule.Appl, 1) (tree_at theory.old.items typed.of)) f (account theory.old job.old) (account theory.new job.new) result }
     ensures continues { Continues theory.old theory.new }
-    ensures most { job.new.left ≤ job.old.left }
+    ensures pairs { KnowsPairs theory.new job.new.known }
+    ensures most { job.new.budget.left ≤ job.old.budget.left }
 {
     let asked = (RuleName::Appl, 1);
     let (product, equal) = theory.expose(typed, job)?;

@@ -2,20 +2,22 @@
 ghost use Rattle.std.specs.Prelude.{◌≡◌, ◌<◌, ◌≤◌, ◌+◌, ◌^◌, is_some, IfSome};
 ghost use Rattle.ld_terms.specs.Tree.{Tree, Trees, App, Lam, Pi, ◌▸◌, count};
 ghost use Rattle.ld_terms.specs.Bank.{tree_at, IsTermAt};
-ghost use Rattle.ld_infer.specs.Reading.{Types, SortOf, part_reading, within as part, product_reading, abstraction_reading, body_reading, application_reading, argument_reading, again, again_unless};
-ghost use Rattle.ld_infer.specs.Standing.{env, Continues, KnowsSort};
-ghost use Rattle.ld_infer.specs.Infers.{Infers, InfersSort, TypesAgain, InfersBody, Suits, IsReadable};
+ghost use Rattle.ld_convert.specs.Compares.{Compares};
+ghost use Rattle.ld_infer.specs.Reading.{Types, SortOf, part_reading, within as part, product_reading, abstraction_reading, body_reading, application_reading, again, again_unless};
+ghost use Rattle.ld_infer.specs.Standing.{env, account, Continues, KnowsSort, KnowsPairs};
+ghost use Rattle.ld_infer.specs.Infers.{Infers, InfersSort, TypesAgain, InfersBody, IsReadable};
 ghost use Rattle.ld_infer.specs.declared.failure.RuleName.TheVariants as rule;
 ghost use Rattle.ld_infer.specs.declared.failure.PathStep.TheVariants.{Dom};
 
+use crate::argument::argument_judgement;
 use crate::exposing::exposed_sort;
 use crate::failure::{InferFault, PathStep, RuleName, Why};
 use crate::function::function_type;
 use crate::instance::instance;
-use crate::job::Job;
 use crate::leaf::{sort_of_sort, star, variable};
 use crate::refusal::{box_body, refusal, refused_again, within};
 use crate::theory::Theory;
+use ld_convert::Job;
 use ld_record::{JudgeId, Step};
 use ld_reduce::Stop;
 use ld_terms::{Node, TermId};
@@ -43,8 +45,7 @@ struct BodyTyped {
 
 /// The type of a term in the theory's context, by the rules for its form. `asked` is the rule and the number of the
 /// premise for which the type is wanted: they are reported where the term is `box`. `nest` is the nesting of this reading,
-/// 1 for a whole term; readings nested deeper than 1,000 are stopped. A fault is a premise of a rule that fails, a stop, or
-/// that a form isn't built: the comparison of an argument's type with another.
+/// 1 for a whole term; readings nested deeper than 1,000 are stopped. A fault is a premise of a rule that fails, or a stop.
 #[cycle(infer)]
 pub fn infer(
     alloc: Global,
@@ -57,9 +58,11 @@ pub fn infer(
     requires term { IsReadable theory.old t }
     requires nest { nest ≤ 1001 }
     requires room { count theory.old.context + 1001 < 2 ^ 32 + nest }
-    ensures answer { Infers theory.old theory.new (Types (env theory.old) theory.old.context nest asked (tree_at theory.old.items t)) t job.old job.new result }
+    requires pairs { KnowsPairs theory.old job.old.known }
+    ensures answer { Infers theory.old theory.new (Types (env theory.old) theory.old.context nest asked (tree_at theory.old.items t)) t (account theory.old job.old) (account theory.new job.new) result }
     ensures continues { Continues theory.old theory.new }
-    ensures most { job.new.left ≤ job.old.left }
+    ensures pairs { KnowsPairs theory.new job.new.known }
+    ensures most { job.new.budget.left ≤ job.old.budget.left }
 {
     if nest > GREATEST_NESTING {
         return Err(InferFault::Stop(Stop::Nested));
@@ -90,9 +93,11 @@ pub fn sort_of(
     requires term { IsReadable theory.old t }
     requires nest { nest ≤ 1001 }
     requires room { count theory.old.context + 1001 < 2 ^ 32 + nest }
-    ensures answer { InfersSort theory.old theory.new (SortOf (env theory.old) theory.old.context nest asked (tree_at theory.old.items t)) t job.old job.new result }
+    requires pairs { KnowsPairs theory.old job.old.known }
+    ensures answer { InfersSort theory.old theory.new (SortOf (env theory.old) theory.old.context nest asked (tree_at theory.old.items t)) t (account theory.old job.old) (account theory.new job.new) result }
     ensures continues { Continues theory.old theory.new }
-    ensures most { job.new.left ≤ job.old.left }
+    ensures pairs { KnowsPairs theory.new job.new.known }
+    ensures most { job.new.budget.left ≤ job.old.budget.left }
 {
     let typed = infer(alloc, theory, asked, t, nest, job)?;
     match theory.bank().node(typed.of) {
@@ -114,12 +119,14 @@ pub(crate) fn type_again(
     requires term { IsReadable theory.old t }
     requires nest { nest ≤ 1000 }
     requires room { count theory.old.context + 1000 < 2 ^ 32 + nest }
+    requires pairs { KnowsPairs theory.old job.old.known }
     ensures answer { TypesAgain theory.old theory.new
-        (again (env theory.old) (count theory.old.context) (part_reading nest (env theory.old) theory.old.context) asked (tree_at theory.old.items t)) t job.old job.new result }
+        (again (env theory.old) (count theory.old.context) (part_reading nest (env theory.old) theory.old.context) asked (tree_at theory.old.items t)) t (account theory.old job.old) (account theory.new job.new) result }
     ensures continues { Continues theory.old theory.new }
-    ensures most { job.new.left ≤ job.old.left }
+    ensures pairs { KnowsPairs theory.new job.new.known }
+    ensures most { job.new.budget.left ≤ job.old.budget.left }
 {
-    job.step()?;
+    job.budget.step()?;
     match sort_of(alloc, theory, asked, t, nest + 1, job) {
         Ok(sort) => Ok(sort),
         Err(fault) => Err(refused_again(alloc, theory, asked, fault)),
@@ -142,10 +149,12 @@ fn product(
     requires is { tree_at theory.old.items t ≡ Pi (tree_at theory.old.items a) (tree_at theory.old.items b) }
     requires nest { nest ≤ 1000 }
     requires room { count theory.old.context + 1001 < 2 ^ 32 + nest }
+    requires pairs { KnowsPairs theory.old job.old.known }
     ensures answer { Infers theory.old theory.new
-        (product_reading (env theory.old) (part_reading nest (env theory.old)) theory.old.context (tree_at theory.old.items a) (tree_at theory.old.items b)) t job.old job.new result }
+        (product_reading (env theory.old) (part_reading nest (env theory.old)) theory.old.context (tree_at theory.old.items a) (tree_at theory.old.items b)) t (account theory.old job.old) (account theory.new job.new) result }
     ensures continues { Continues theory.old theory.new }
-    ensures most { job.new.left ≤ job.old.left }
+    ensures pairs { KnowsPairs theory.new job.new.known }
+    ensures most { job.new.budget.left ≤ job.old.budget.left }
 {
     let domain = domain_sort(alloc, theory, RuleName::Form, a, nest, job)?;
     theory.enter(a, domain.1)?;
@@ -177,10 +186,12 @@ fn domain_sort(
     requires term { IsReadable theory.old a }
     requires nest { nest ≤ 1000 }
     requires room { count theory.old.context + 1000 < 2 ^ 32 + nest }
+    requires pairs { KnowsPairs theory.old job.old.known }
     ensures answer { InfersSort theory.old theory.new
-        (part Dom (SortOf (env theory.old) theory.old.context (nest + 1) (rule, 1) (tree_at theory.old.items a))) a job.old job.new result }
+        (part Dom (SortOf (env theory.old) theory.old.context (nest + 1) (rule, 1) (tree_at theory.old.items a))) a (account theory.old job.old) (account theory.new job.new) result }
     ensures continues { Continues theory.old theory.new }
-    ensures most { job.new.left ≤ job.old.left }
+    ensures pairs { KnowsPairs theory.new job.new.known }
+    ensures most { job.new.budget.left ≤ job.old.budget.left }
 {
     match sort_of(alloc, theory, (rule, 1), a, nest + 1, job) {
         Ok(domain) => Ok(domain),
@@ -204,10 +215,12 @@ fn abstraction(
     requires is { tree_at theory.old.items t ≡ Lam (tree_at theory.old.items a) (tree_at theory.old.items m) }
     requires nest { nest ≤ 1000 }
     requires room { count theory.old.context + 1001 < 2 ^ 32 + nest }
+    requires pairs { KnowsPairs theory.old job.old.known }
     ensures answer { Infers theory.old theory.new
-        (abstraction_reading (env theory.old) (part_reading nest (env theory.old)) theory.old.context (tree_at theory.old.items a) (tree_at theory.old.items m)) t job.old job.new result }
+        (abstraction_reading (env theory.old) (part_reading nest (env theory.old)) theory.old.context (tree_at theory.old.items a) (tree_at theory.old.items m)) t (account theory.old job.old) (account theory.new job.new) result }
     ensures continues { Continues theory.old theory.new }
-    ensures most { job.new.left ≤ job.old.left }
+    ensures pairs { KnowsPairs theory.new job.new.known }
+    ensures most { job.new.budget.left ≤ job.old.budget.left }
 {
     let domain = domain_sort(alloc, theory, RuleName::Abst, a, nest, job)?;
     theory.enter(a, domain.1)?;
@@ -237,10 +250,12 @@ fn body_type(
     requires inner { 0 < count theory.old.context }
     requires nest { nest ≤ 1000 }
     requires room { count theory.old.context + 1000 < 2 ^ 32 + nest }
+    requires pairs { KnowsPairs theory.old job.old.known }
     ensures answer { (ctx : Trees) (a : Tree) → theory.old.context ≡ ctx ▸ a → InfersBody theory.old theory.new
-        (body_reading (env theory.old) (part_reading nest (env theory.old)) ctx a (tree_at theory.old.items m)) m job.old job.new result }
+        (body_reading (env theory.old) (part_reading nest (env theory.old)) ctx a (tree_at theory.old.items m)) m (account theory.old job.old) (account theory.new job.new) result }
     ensures continues { Continues theory.old theory.new }
-    ensures most { job.new.left ≤ job.old.left }
+    ensures pairs { KnowsPairs theory.new job.new.known }
+    ensures most { job.new.budget.left ≤ job.old.budget.left }
 {
     let typed = match infer(alloc, theory, (RuleName::Abst, 1), m, nest + 1, job) {
         Ok(typed) => typed,
@@ -271,11 +286,13 @@ fn sort_of_type(
     requires sorted { IfSome typed.of_judge (λ j. KnowsSort theory.old j (tree_at theory.old.items typed.of)) }
     requires nest { nest ≤ 1000 }
     requires room { count theory.old.context + 1000 < 2 ^ 32 + nest }
+    requires pairs { KnowsPairs theory.old job.old.known }
     ensures answer { TypesAgain theory.old theory.new
         (again_unless (env theory.old) (count theory.old.context) (part_reading nest (env theory.old) theory.old.context) (is_some typed.of_judge) (rule.Abst, 2) (tree_at theory.old.items typed.of))
-        typed.of job.old job.new result }
+        typed.of (account theory.old job.old) (account theory.new job.new) result }
     ensures continues { Continues theory.old theory.new }
-    ensures most { job.new.left ≤ job.old.left }
+    ensures pairs { KnowsPairs theory.new job.new.known }
+    ensures most { job.new.budget.left ≤ job.old.budget.left }
 {
     match typed.of_judge {
         Some(j) => Ok((theory.type_of(j), j)),
@@ -299,12 +316,15 @@ fn application(
     requires is { tree_at theory.old.items t ≡ App (tree_at theory.old.items f) (tree_at theory.old.items u) }
     requires nest { nest ≤ 1000 }
     requires room { count theory.old.context + 1001 < 2 ^ 32 + nest }
+    requires pairs { KnowsPairs theory.old job.old.known }
     ensures answer { Infers theory.old theory.new
-        (application_reading (env theory.old) (part_reading nest (env theory.old)) theory.old.context (tree_at theory.old.items f) (tree_at theory.old.items u)) t job.old job.new result }
+        (application_reading (env theory.old) (Compares (env theory.old) (nest + 1)) (part_reading nest (env theory.old)) theory.old.context (tree_at theory.old.items f) (tree_at theory.old.items u)) t (account theory.old job.old) (account theory.new job.new) result }
     ensures continues { Continues theory.old theory.new }
-    ensures most { job.new.left ≤ job.old.left }
+    ensures pairs { KnowsPairs theory.new job.new.known }
+    ensures most { job.new.budget.left ≤ job.old.budget.left }
 {
     let function = function_type(alloc, theory, f, nest, job)?;
+    theory.keeps_well_formed();
     let asked = (RuleName::Appl, 2);
     let argument = argument_judgement(
         alloc,
@@ -323,38 +343,4 @@ fn application(
         judge,
         of_judge: None,
     })
-}
-
-// The judgement of an argument and the type that is wanted of it. The argument stands at the step, and is read for the rule
-// and the premise that are named.
-#[cycle(infer)]
-pub(crate) fn argument_judgement(
-    alloc: Global,
-    theory: &mut Theory,
-    step: PathStep,
-    asked: (RuleName, u32),
-    wanted: TermId,
-    u: TermId,
-    nest: u32,
-    job: &mut Job,
-) -> Result<JudgeId, InferFault>
-    requires term { IsReadable theory.old u }
-    requires wanted { IsTermAt theory.old.items wanted }
-    requires nest { nest ≤ 1000 }
-    requires room { count theory.old.context + 1000 < 2 ^ 32 + nest }
-    ensures answer { Suits theory.old theory.new
-        (argument_reading (env theory.old) (count theory.old.context) (part_reading nest (env theory.old) theory.old.context) step asked (tree_at theory.old.items wanted) (tree_at theory.old.items u))
-        (tree_at theory.old.items u) (tree_at theory.old.items wanted) job.old job.new result }
-    ensures continues { Continues theory.old theory.new }
-    ensures most { job.new.left ≤ job.old.left }
-{
-    let typed = match infer(alloc, theory, asked, u, nest + 1, job) {
-        Ok(typed) => typed,
-        Err(fault) => return Err(within(step, fault)),
-    };
-    if theory.bank().same(typed.of, wanted) {
-        Ok(typed.judge)
-    } else {
-        Err(InferFault::NotBuilt)
-    }
 }

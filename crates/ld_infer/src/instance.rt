@@ -4,18 +4,21 @@ ghost use Rattle.ld_terms.specs.Tree.{Tree, Trees, Const, ◌▸◌, count};
 ghost use Rattle.ld_terms.specs.Put.{put};
 ghost use Rattle.ld_terms.specs.Item.{Item};
 ghost use Rattle.ld_terms.specs.Bank.{tree_at, list_at, IsTermAt, IsListAt};
+ghost use Rattle.ld_terms.specs.Named.{IsWellFormed};
 ghost use Rattle.ld_terms.specs.Record.{params_at};
 ghost use Rattle.ld_env.specs.Entries.{body_of};
 ghost use Rattle.ld_record.specs.Follows.{entry_at};
+ghost use Rattle.ld_convert.specs.Compares.{Compares};
 ghost use Rattle.ld_infer.specs.Reading.{part_reading, instance_reading, next_argument, arguments as arguments_reading, instance_rule as rule_of};
-ghost use Rattle.ld_infer.specs.Standing.{env, without, Continues};
+ghost use Rattle.ld_infer.specs.Standing.{env, without, account, Continues, KnowsPairs};
 ghost use Rattle.ld_infer.specs.Infers.{Infers, Suits, JudgesArguments, IsReadable, AreReadable, ArePrefixes, IsInstanceStep};
 
+use crate::argument::argument_judgement;
 use crate::failure::{InferFault, PathStep, RuleName};
-use crate::inference::{Typed, argument_judgement};
-use crate::job::Job;
+use crate::inference::Typed;
 use crate::theory::Theory;
 use fb_base::NoMemory;
+use ld_convert::Job;
 use ld_record::{JudgeId, Judges, Step};
 use ld_terms::{Bank, Node, TermId};
 use std::alloc::Global;
@@ -36,10 +39,12 @@ pub(crate) fn instance(
     requires is { tree_at theory.old.items t ≡ Const k (list_at theory.old.items us) }
     requires nest { nest ≤ 1000 }
     requires room { count theory.old.context + 1001 < 2 ^ 32 + nest }
+    requires pairs { KnowsPairs theory.old job.old.known }
     ensures answer { Infers theory.old theory.new
-        (instance_reading (env theory.old) (part_reading nest (env theory.old)) theory.old.context (slice_get (env theory.old) k) (list_at theory.old.items us)) t job.old job.new result }
+        (instance_reading (env theory.old) (Compares (env theory.old) (nest + 1)) (part_reading nest (env theory.old)) theory.old.context (slice_get (env theory.old) k) (list_at theory.old.items us)) t (account theory.old job.old) (account theory.new job.new) result }
     ensures continues { Continues theory.old theory.new }
-    ensures most { job.new.left ≤ job.old.left }
+    ensures pairs { KnowsPairs theory.new job.new.known }
+    ensures most { job.new.budget.left ≤ job.old.budget.left }
 {
     let entry = theory.env().entry(k);
     let entry_type = entry.of;
@@ -73,11 +78,13 @@ fn arguments(
     requires as_many { count (list_at theory.old.items us) ≡ params_at (env theory.old) k }
     requires nest { nest ≤ 1000 }
     requires room { count theory.old.context + 1000 < 2 ^ 32 + nest }
+    requires pairs { KnowsPairs theory.old job.old.known }
     ensures answer { JudgesArguments theory.old theory.new
-        (arguments_reading (env theory.old) (count theory.old.context) (part_reading nest (env theory.old) theory.old.context) rule (entry_at (env theory.old) k).params (list_at theory.old.items us))
-        (entry_at (env theory.old) k).params (list_at theory.old.items us) job.old job.new result }
+        (arguments_reading (env theory.old) (Compares (env theory.old) (nest + 1)) (count theory.old.context) (part_reading nest (env theory.old) theory.old.context) rule (entry_at (env theory.old) k).params (list_at theory.old.items us))
+        (entry_at (env theory.old) k).params (list_at theory.old.items us) (account theory.old job.old) (account theory.new job.new) result }
     ensures continues { Continues theory.old theory.new }
-    ensures most { job.new.left ≤ job.old.left }
+    ensures pairs { KnowsPairs theory.new job.new.known }
+    ensures most { job.new.budget.left ≤ job.old.budget.left }
 {
     let lists = prefixes(alloc, theory.bank(), us)?;
     let mut judges = Vec::new(alloc);
@@ -108,13 +115,16 @@ fn argument(
     requires some { 0 < asked.1 }
     requires number { count (list_at theory.old.items list) ≡ asked.1 }
     requires param { IsTermAt theory.old.items param }
+    requires formed { (us : Trees) (u : Tree) → list_at theory.old.items list ≡ us ▸ u → IsWellFormed (env theory.old) (count theory.old.context) (put (tree_at theory.old.items param) us) }
     requires nest { nest ≤ 1000 }
     requires room { count theory.old.context + 1000 < 2 ^ 32 + nest }
+    requires pairs { KnowsPairs theory.old job.old.known }
     ensures answer { (us : Trees) (u : Tree) → list_at theory.old.items list ≡ us ▸ u → Suits theory.old theory.new
-        (next_argument (env theory.old) (count theory.old.context) (part_reading nest (env theory.old) theory.old.context) asked.0 (tree_at theory.old.items param) us u)
-        u (put (tree_at theory.old.items param) us) job.old job.new result }
+        (next_argument (env theory.old) (Compares (env theory.old) (nest + 1)) (count theory.old.context) (part_reading nest (env theory.old) theory.old.context) asked.0 (tree_at theory.old.items param) us u)
+        u (put (tree_at theory.old.items param) us) (account theory.old job.old) (account theory.new job.new) result }
     ensures continues { Continues theory.old theory.new }
-    ensures most { job.new.left ≤ job.old.left }
+    ensures pairs { KnowsPairs theory.new job.new.known }
+    ensures most { job.new.budget.left ≤ job.old.budget.left }
 {
     let Node::Cons(u, before) = theory.bank().node(list) else {
         unreachable!();
@@ -146,13 +156,17 @@ fn prefixes(alloc: Global, bank: &Bank, us: TermId) -> Result<Vec<TermId>, NoMem
     Ok(lists)
 }
 
-// The type of a parameter of an entry, over the parameters before it. Places are counted from 0.
+// The type of a parameter of an entry, over the parameters before it. With arguments put in for those it is over the entries
+// and variables that are there. Places are counted from 0.
 fn parameter(theory: &Theory, k: u32, place: usize) -> TermId
     requires there { k < length (env theory.now) }
     requires place { place < params_at (env theory.now) k }
     ensures term { IsTermAt theory.now.items result }
     ensures is { (ps : Trees) (p : Tree) → without (params_at (env theory.now) k - (place + 1)) (entry_at (env theory.now) k).params ≡ ps ▸ p → tree_at theory.now.items result ≡ p }
+    ensures formed { (ps us : Trees) (p : Tree) → without (params_at (env theory.now) k - (place + 1)) (entry_at (env theory.now) k).params ≡ ps ▸ p → count us ≡ count ps
+        → AreReadable theory.now us → IsWellFormed (env theory.now) (count theory.now.context) (put p us) }
 {
+    let _deriv = theory.deriv();
     theory.env().entry(k).params.as_slice()[place]
 }
 

@@ -1,11 +1,12 @@
-//! How a theory keeps judgements of its context, also as entries.
+//! How a theory keeps judgements of its context, also as entries, and its variables.
 ghost use Rattle.std.specs.Prelude.{◌≡◌, ◌<◌, ◌+◌, ◌^◌, length, IfOk, OnOk, OnErr};
-ghost use Rattle.ld_terms.specs.Tree.{Star};
+ghost use Rattle.ld_terms.specs.Tree.{Tree, Star, count};
 ghost use Rattle.ld_terms.specs.Bank.{tree_at, IsTermAt};
+ghost use Rattle.ld_terms.specs.Named.{IsWellFormed};
 ghost use Rattle.ld_terms.specs.Known.{line_entry, primitive_entry, IsFree};
 ghost use Rattle.ld_record.specs.Growth.{Knows};
 ghost use Rattle.ld_record.specs.Follows.{Follows};
-ghost use Rattle.ld_infer.specs.Standing.{known, env, here, KnowsSort, AddsEntry, Continues, Goes};
+ghost use Rattle.ld_infer.specs.Standing.{known, env, here, KnowsSort, Enters, AddsEntry, Continues, Goes};
 
 use crate::theory::Theory;
 use fb_base::NoMemory;
@@ -15,6 +16,25 @@ use ld_terms::TermId;
 use std::alloc::Global;
 
 impl Theory {
+    // Terms and types of judgements are over the entries and variables that are there: for the proofs of what reads a type.
+    pub(crate) fn keeps_well_formed(&self)
+        ensures { (j : JudgeId) (t type : Tree) → Knows (known self.now) j (here self.now t type)
+            → IsWellFormed (env self.now) (count self.now.context) t × IsWellFormed (env self.now) (count self.now.context) type }
+    {
+        let _deriv = self.deriv();
+    }
+
+    /// Puts a variable of the type `of` at the end of the context. `sort` is a judgement for a sort of the type.
+    pub fn enter(&mut self, of: TermId, sort: JudgeId) -> Result<(), NoMemory>
+        requires of { IsTermAt self.old.items of }
+        requires sort { KnowsSort self.old sort (tree_at self.old.items of) }
+        ensures ok { OnOk result (Enters self.old self.new (tree_at self.old.items of)) }
+        ensures err { OnErr result (Continues self.old self.new) }
+    {
+        let star = self.star_judgement()?;
+        self.enter_by(of, star, sort)
+    }
+
     /// Keeps a judgement of the context, over all entries, that follows by a rule.
     pub fn conclude(&mut self, term: TermId, of: TermId, step: Step) -> Result<JudgeId, NoMemory>
         requires term { IsTermAt self.old.items term }

@@ -2,13 +2,14 @@
 //! definitions (docs/calculus.md; Nederpelt and Geuvers, *Type Theory and Formal Proof*, chapters 8 to 11).
 #![tactic(auto)]
 
+mod argument;
 mod exposing;
 mod failure;
 mod function;
 mod inference;
 mod instance;
-mod job;
 mod keeping;
+pub mod laws;
 mod leaf;
 mod refusal;
 #[cfg(test)]
@@ -18,7 +19,8 @@ mod variable;
 
 pub use failure::{Failure, InferFault, Path, PathStep, RuleName, Why};
 pub use inference::{Typed, infer, sort_of};
-pub use job::Job;
+pub use ld_convert::Job;
 pub use ld_reduce::Stop;
 pub use refusal::within;
-pub use theory::{Theory, VariableTyped};
+pub use theory::Theory;
+pub use variable::VariableTyped;

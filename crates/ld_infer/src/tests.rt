@@ -125,7 +125,7 @@ fn constant(theory: &mut Theory) -> Result<TermId, TermFault>
 #[test]
 fn types_the_identity(rt: HostRuntime) -> Result<(), Fail> {
     let mut theory = Theory::new(rt.alloc())?;
-    let mut job = Job::new(10);
+    let mut job = Job::new(rt.alloc(), 10);
     let term = identity(&mut theory)?;
     let typed = infer(
         rt.alloc(),
@@ -147,14 +147,14 @@ fn types_the_identity(rt: HostRuntime) -> Result<(), Fail> {
     assert_eq!(rt; bank.node(domain), Node::Var(0));
     assert_eq!(rt; bank.node(range), Node::Var(1));
     assert!(rt; typed.of_judge.is_some());
-    assert_eq!(rt; job.spent(), 0);
+    assert_eq!(rt; job.budget.spent(), 0);
     Ok(())
 }
 
 #[test]
 fn types_an_application(rt: HostRuntime) -> Result<(), Fail> {
     let mut theory = Theory::new(rt.alloc())?;
-    let mut job = Job::new(10);
+    let mut job = Job::new(rt.alloc(), 10);
     let term = chosen(&mut theory)?;
     let typed = infer(
         rt.alloc(),
@@ -166,14 +166,14 @@ fn types_an_application(rt: HostRuntime) -> Result<(), Fail> {
     )?;
     assert_eq!(rt; theory.bank().node(typed.of), Node::Star);
     assert!(rt; typed.of_judge.is_none());
-    assert_eq!(rt; job.spent(), 0);
+    assert_eq!(rt; job.budget.spent(), 0);
     Ok(())
 }
 
 #[test]
 fn refuses_a_body_of_type_box(rt: HostRuntime) -> Result<(), Fail> {
     let mut theory = Theory::new(rt.alloc())?;
-    let mut job = Job::new(10);
+    let mut job = Job::new(rt.alloc(), 10);
     let term = constant(&mut theory)?;
     let result = infer(
         rt.alloc(),
@@ -247,7 +247,7 @@ fn instance_with(theory: &mut Theory, k: u32, argument: Option<u32>) -> Result<T
 #[test]
 fn types_an_instance(rt: HostRuntime) -> Result<(), Fail> {
     let mut theory = Theory::new(rt.alloc())?;
-    let mut job = Job::new(10);
+    let mut job = Job::new(rt.alloc(), 10);
     let k = keep_primitive(rt.alloc(), &mut theory)?;
     let term = instance_with(&mut theory, k, Some(0))?;
     let typed = infer(
@@ -264,7 +264,7 @@ fn types_an_instance(rt: HostRuntime) -> Result<(), Fail> {
     assert_eq!(rt; of, Node::Var(1));
     assert_eq!(rt; theory.bank().node(typed.of), Node::Var(1));
     assert!(rt; typed.of_judge.is_none());
-    assert_eq!(rt; job.spent(), 0);
+    assert_eq!(rt; job.budget.spent(), 0);
     Ok(())
 }
 
@@ -272,7 +272,7 @@ fn types_an_instance(rt: HostRuntime) -> Result<(), Fail> {
 #[test]
 fn compares_an_argument(rt: HostRuntime) -> Result<(), Fail> {
     let mut theory = Theory::new(rt.alloc())?;
-    let mut job = Job::new(10);
+    let mut job = Job::new(rt.alloc(), 10);
     let k = keep_primitive(rt.alloc(), &mut theory)?;
     let term = instance_with(&mut theory, k, Some(1))?;
     let result = infer(
@@ -283,16 +283,25 @@ fn compares_an_argument(rt: HostRuntime) -> Result<(), Fail> {
         1,
         &mut job,
     );
-    let Err(InferFault::NotBuilt) = result else {
-        return Err(Fail::from("the form is built"));
+    let Err(InferFault::Refused(failure)) = result else {
+        return Err(Fail::from("no refusal"));
     };
+    assert!(rt; failure.rule == RuleName::InstPrim);
+    assert_eq!(rt; failure.premise, 2);
+    assert_eq!(rt; failure.depth, 2);
+    assert!(rt; failure.path.len() == 1 && failure.path.step(0) == PathStep::Nth(2));
+    let Why::NotSame { under, .. } = failure.why else {
+        return Err(Fail::from("no comparison"));
+    };
+    assert_eq!(rt; under, 0);
+    assert_eq!(rt; job.budget.spent(), 0);
     Ok(())
 }
 
 #[test]
 fn refuses_an_argument_that_is_box(rt: HostRuntime) -> Result<(), Fail> {
     let mut theory = Theory::new(rt.alloc())?;
-    let mut job = Job::new(10);
+    let mut job = Job::new(rt.alloc(), 10);
     let k = keep_primitive(rt.alloc(), &mut theory)?;
     let term = instance_with(&mut theory, k, None)?;
     let result = infer(

@@ -3,15 +3,16 @@ ghost use Rattle.std.specs.Prelude.{◌≡◌, ◌<◌, ◌≤◌, ◌+◌, ◌-
 ghost use Rattle.ld_terms.specs.Tree.{Tree, Star, Box, Nil, count};
 ghost use Rattle.ld_terms.specs.Bank.{tree_at, list_at, item_of, HasParts, IsTermAt, IsListAt, StandsFor, Holds};
 ghost use Rattle.ld_terms.specs.Known.{nothing, judgement_at};
-ghost use Rattle.ld_terms.specs.Named.{IsWellFormed};
+ghost use Rattle.ld_terms.specs.Named.{IsNamed};
 ghost use Rattle.ld_env.specs.Entries.{entry_of, env_of, IsLiveEntry, AreLive};
 
 use crate::inference::Typed;
-use crate::job::Job;
+use crate::variable::Variable;
 use fb_base::{NoMemory, Text};
+use ld_convert::{Compared, Job, compare};
 use ld_env::{Entry, Env};
 use ld_record::{CtxId, Deriv, EqId, Judge, JudgeId, Step};
-use ld_reduce::Stop;
+use ld_reduce::{Stop, expose};
 use ld_terms::{Bank, Node, TermFault, TermId, Terms};
 use std::alloc::Global;
 use std::marker::Model;
@@ -21,22 +22,6 @@ use std::marker::Model;
 struct Level {
     ctx: CtxId,
     star: JudgeId,
-}
-
-// A variable of the context: its type, and a judgement for a sort of the type in the context before it.
-#[derive(Clone, Copy, Debug)]
-pub(crate) struct Variable {
-    pub(crate) of: TermId,
-    pub(crate) sort: JudgeId,
-}
-
-/// The type of a variable, with a judgement of the variable and its type and one of the type and its sort, both in the
-/// context and over all entries.
-#[derive(Clone, Copy, Debug)]
-pub struct VariableTyped {
-    pub of: TermId,
-    pub judge: JudgeId,
-    pub sort: JudgeId,
 }
 
 /// An environment with a derivation of it, and a context that is legal over it.
@@ -76,8 +61,8 @@ impl Theory {
     ghost use Rattle.ld_record.specs.Kept.{IsSound, FitsEntry, entry_by};
     ghost use Rattle.ld_record.specs.Growth.{Knows, Adds};
     ghost use Rattle.ld_record.specs.Follows.{Follows};
-    ghost use Rattle.ld_infer.specs.Standing.{Standing, known, env, here, Continues, KnowsSort, KnowsType, Enters, AddsEntry, AddsFlag, Goes, without, without_last};
-    ghost use Rattle.ld_infer.specs.Infers.{Exposes};
+    ghost use Rattle.ld_infer.specs.Standing.{Standing, known, env, here, account, Continues, KnowsSort, KnowsType, KnowsPairs, Enters, AddsEntry, AddsFlag, Goes, without, without_last};
+    ghost use Rattle.ld_infer.specs.Infers.{Exposes, ComparesTypes};
     ghost use Rattle.ld_infer.specs.Variables.{judged_in, EndsWith};
 
     /// The empty environment and context.
@@ -198,14 +183,6 @@ impl Theory {
         self.deriv.judge(&self.bank, j).of
     }
 
-    // Terms and types of judgements are over the entries and variables that are there: for the proofs of what reads a type.
-    pub(crate) fn keeps_well_formed(&self)
-        ensures { (j : JudgeId) (t type : Tree) → Knows (known self.now) j (here self.now t type)
-            → IsWellFormed (env self.now) (count self.now.context) t × IsWellFormed (env self.now) (count self.now.context) type }
-    {
-        let _deriv = self.deriv();
-    }
-
     /// The judgement `* : box` in the context, over all entries.
     pub fn star_judgement(&mut self) -> Result<JudgeId, NoMemory>
         ensures number { IfOk result (λ j. Knows (known self.new) j (here self.old Star Box)) }
@@ -227,11 +204,40 @@ impl Theory {
     pub(crate) fn expose(&mut self, typed: Typed, job: &mut Job) -> Result<(TermId, EqId), Stop>
         requires of { IsTermAt self.old.items typed.of }
         requires judge { KnowsType self.old typed.judge (tree_at self.old.items typed.of) }
-        ensures answer { Exposes self.old self.new (tree_at self.old.items typed.of) job.old job.new result }
+        requires pairs { KnowsPairs self.old job.old.known }
+        ensures answer { Exposes self.old self.new (tree_at self.old.items typed.of) (account self.old job.old) (account self.new job.new) result }
         ensures continues { Continues self.old self.new }
-        ensures most { job.new.left ≤ job.old.left }
+        ensures pairs { KnowsPairs self.new job.new.known }
+        ensures most { job.new.budget.left ≤ job.old.budget.left }
     {
-        job.expose(&mut self.bank, &self.env, &mut self.deriv, typed.of)
+        let bank = &mut self.bank;
+        let deriv = &mut self.deriv;
+        expose(bank, &self.env, deriv, typed.of, &mut job.budget)
+    }
+
+    /// Compares a type that was found with another term, at the nesting `nest`, as [`compare`](ld_convert::compare) does.
+    pub fn compare(
+        &mut self,
+        alloc: Global,
+        typed: Typed,
+        wanted: TermId,
+        nest: u32,
+        job: &mut Job,
+    ) -> Result<Compared, Stop>
+        requires of { IsTermAt self.old.items typed.of }
+        requires judge { KnowsType self.old typed.judge (tree_at self.old.items typed.of) }
+        requires wanted { IsTermAt self.old.items wanted }
+        requires named { IsNamed (env self.old) (tree_at self.old.items wanted) }
+        requires nest { nest ≤ 1001 }
+        requires pairs { KnowsPairs self.old job.old.known }
+        ensures answer { ComparesTypes self.old self.new nest (tree_at self.old.items typed.of) (tree_at self.old.items wanted) (account self.old job.old) (account self.new job.new) result }
+        ensures continues { Continues self.old self.new }
+        ensures pairs { KnowsPairs self.new job.new.known }
+        ensures most { job.new.budget.left ≤ job.old.budget.left }
+    {
+        let bank = &mut self.bank;
+        let deriv = &mut self.deriv;
+        compare(alloc, bank, &self.env, deriv, typed.of, wanted, nest, job)
     }
 
     // Keeps a judgement of the context without so many of its last variables, over all entries, that follows by a rule.
@@ -292,19 +298,13 @@ impl Theory {
         self.bank.lift(t, 1, 0)
     }
 
-    /// Puts a variable of the type `of` at the end of the context. `sort` is a judgement for a sort of the type.
-    pub fn enter(&mut self, of: TermId, sort: JudgeId) -> Result<(), NoMemory>
-        requires of { IsTermAt self.old.items of }
-        requires sort { KnowsSort self.old sort (tree_at self.old.items of) }
-        ensures ok { OnOk result (Enters self.old self.new (tree_at self.old.items of)) }
-        ensures err { OnErr result (Continues self.old self.new) }
-    {
-        let star = self.star_judgement()?;
-        self.enter_by(of, star, sort)
-    }
-
-    // The same where the judgement for `* : box` is over all entries.
-    fn enter_by(&mut self, of: TermId, star: JudgeId, sort: JudgeId) -> Result<(), NoMemory>
+    // Puts a variable at the end of the context, as `enter` does, where the judgement for `* : box` is over all entries.
+    pub(crate) fn enter_by(
+        &mut self,
+        of: TermId,
+        star: JudgeId,
+        sort: JudgeId,
+    ) -> Result<(), NoMemory>
         requires of { IsTermAt self.old.items of }
         requires star { Knows (known self.old) star (here self.old Star Box) }
         requires sort { KnowsSort self.old sort (tree_at self.old.items of) }

@@ -10,9 +10,25 @@ ghost use Rattle.ld_infer.specs.Infers.{IsVariableTyped};
 ghost use Rattle.ld_infer.specs.Standing.{known, without, Continues};
 ghost use Rattle.ld_infer.specs.Variables.{judged_in, KnowsSortIn, EndsWith, IsTypeIn, IsTypedIn, IsHighIn};
 
-use crate::theory::{Theory, Variable, VariableTyped};
-use ld_record::Step;
-use ld_terms::{Node, TermFault};
+use crate::theory::Theory;
+use ld_record::{JudgeId, Step};
+use ld_terms::{Node, TermFault, TermId};
+
+// A variable of the context: its type, and a judgement for a sort of the type in the context before it.
+#[derive(Clone, Copy, Debug)]
+pub(crate) struct Variable {
+    pub(crate) of: TermId,
+    pub(crate) sort: JudgeId,
+}
+
+/// The type of a variable, with a judgement of the variable and its type and one of the type and its sort, both in the
+/// context and over all entries.
+#[derive(Clone, Copy, Debug)]
+pub struct VariableTyped {
+    pub of: TermId,
+    pub judge: JudgeId,
+    pub sort: JudgeId,
+}
 
 impl Theory {
     /// The type of a variable of the context, by the rules for variables and weakening. Index 0 is the last variable.

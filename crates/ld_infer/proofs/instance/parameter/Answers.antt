@@ -1,7 +1,11 @@
-use Rattle.std.proofs.Common.{rules, ◌<◌, length, get_or, arith, subst, sym, ap, ◌≡◌, List}
+use Rattle.std.proofs.Common.{rules, ◌<◌, ◌+◌, ◌-◌, length, get_or, arith, subst, sym, ap, ◌≡◌, List}
+use Rattle.ld_terms.specs.Record.{params_at}
+use Rattle.ld_infer.specs.Standing.{env}
 use Rattle.ld_terms.specs.Bank.{tree_at, IsTermAt}
 use Rattle.ld_terms.specs.declared.bank.TermId.{TermId}
 use Rattle.ld_infer.proofs.Instances.{IsEntry, entry_here, parameter_there, parameter_is}
+use Rattle.ld_record.specs.Kept.{IsSound}
+use Rattle.ld_infer.proofs.Parameters.{parameter_formed}
 use Rattle.ld_infer.proofs.instance.parameter.Goals as goal
 use Rattle.ld_infer.proofs.instance.parameter.Goals.{After-as_slice}
 
@@ -28,3 +32,8 @@ returns-clause-is c ps p is =
     let P : List TermId → Type 0 = λ ts. tree_at c.args.theory.now.items (get_or ts c.args.place (record { 0 = 0 })) ≡ p in
     let e = entry_here c.args.theory.now _ c.args.k c.entry.result.now c.env.ensures.entries c.entry.ensures c.env.ensures.trees c.env.ensures.live in
     subst P (sym c.as_slice.ensures) (parameter_is c.args.theory.now c.args.k c.args.place c.entry.result.now (record { 0 = 0 }) e c.requires.place ps p is)
+
+pub returns-clause-formed : goal.returns-clause-formed
+returns-clause-formed c ps us p is many readable =
+    let s = c.args.theory.now in
+    parameter_formed s c.args.k (params_at (env s) c.args.k - (c.args.place + 1)) ps us p (subst (IsSound s.items) c.deriv-deriv.ensures.kept c.deriv-deriv.ensures.sound) c.requires.there is many readable

@@ -1,7 +1,7 @@
 use Rattle.std.proofs.Common.{◌≡◌, ◌≤◌, ◌-◌, ◌++◌, ◌∷◌, [], List, length, ap, sym, ◌∙◌, subst, arith}
 use Rattle.std.proofs.lemmas.Grind.{common_steps}
 use Rattle.ld_infer.specs.declared.theory.Level.{Level}
-use Rattle.ld_infer.specs.declared.theory.Variable.{Variable}
+use Rattle.ld_infer.specs.declared.variable.Variable.{Variable}
 use Rattle.ld_terms.specs.Tree.{Trees, ◌▸◌}
 use Rattle.ld_terms.specs.Item.{tree}
 use Rattle.ld_terms.specs.Bank.{IsTermAt, tree_at}

@@ -3,7 +3,7 @@ use Rattle.std.proofs.lemmas.Grind.{common_steps}
 use Rattle.ld_terms.specs.Tree.{Trees, count}
 use Rattle.ld_record.specs.Kept.{known_of}
 use Rattle.ld_infer.specs.declared.theory.Level.{Level}
-use Rattle.ld_infer.specs.declared.theory.Variable.{Variable}
+use Rattle.ld_infer.specs.declared.variable.Variable.{Variable}
 use Rattle.ld_infer.specs.Standing.{Standing, without_last}
 use Rattle.ld_infer.specs.Theory.{context_of, AreLevels}
 use Rattle.ld_infer.proofs.Contexts.{count-context_of, context_of-pop}

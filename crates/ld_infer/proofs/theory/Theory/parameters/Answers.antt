@@ -4,7 +4,7 @@ use Rattle.std.proofs.lemmas.List.{take_all, map_more}
 use Rattle.ld_terms.specs.Tree.{Nil}
 use Rattle.ld_terms.specs.Bank.{listed, IsTermAt}
 use Rattle.ld_terms.specs.declared.bank.TermId.{TermId}
-use Rattle.ld_infer.specs.declared.theory.Variable.{Variable}
+use Rattle.ld_infer.specs.declared.variable.Variable.{Variable}
 use Rattle.ld_infer.specs.Standing.{Standing}
 use Rattle.ld_infer.specs.Theory.{types_of, no_variable}
 use Rattle.ld_infer.proofs.Contexts.{types_live}
