@@ -17,7 +17,6 @@ use Rattle.ld_defrules.specs.Judged.{ItemStops, Judges, item_fault}
 item_stops : {X : Type 0} (items : List Item) (p : Task Refusal X) (f : InferFault) (before after : Account) → Stops items p f before after → ItemStops items p (item_fault f) before after
 item_stops items p (infer.Refused r) before after h = h
 item_stops items p (infer.Stop s) before after h = h
-item_stops items p infer.NotBuilt before after h = h
 
 -- a fault of a term that stands at a step of the item
 pub item_stops_within : {X : Type 0} (items : List Item) (step : PathStep) (p : Task Refusal X) (f g : InferFault) (before after : Account)
@@ -29,14 +28,12 @@ pub item_stops_first : {X Y : Type 0} (items : List Item) (p : Task Refusal X) (
 item_stops_first items p g fault.NameTaken before after h = absurd h
 item_stops_first items p g (fault.Refused r) before after h = stops_first items p g (infer.Refused r) before after h
 item_stops_first items p g (fault.Stop s) before after h = stops_first items p g (infer.Stop s) before after h
-item_stops_first items p g fault.NotBuilt before after h = stops_first items p g infer.NotBuilt before after h
 
 pub item_stops_then : {X Y : Type 0} (items : List Item) (p : Task Refusal X) (g : X → Task Refusal Y) (x : X) (f : ItemFault) (before between after : Account)
     → Comes p (Gives x) before between → ItemStops items (g x) f between after → ItemStops items (p >>= g) f before after
 item_stops_then items p g x fault.NameTaken before between after c h = absurd h
 item_stops_then items p g x (fault.Refused r) before between after c h = stops_then items p g x (infer.Refused r) before between after c h
 item_stops_then items p g x (fault.Stop s) before between after c h = stops_then items p g x (infer.Stop s) before between after c h
-item_stops_then items p g x fault.NotBuilt before between after c h = stops_then items p g x infer.NotBuilt before between after c h
 
 -- an item that stops is not accepted
 pub judges_stop : (X : Type 0) (items : List Item) (p : Task Refusal (Unit {0})) (Taken Adds : Type 0) (f : ItemFault) (before after : Account)
@@ -44,4 +41,3 @@ pub judges_stop : (X : Type 0) (items : List Item) (p : Task Refusal (Unit {0}))
 judges_stop X items p Taken Adds fault.NameTaken before after h = absurd h
 judges_stop X items p Taken Adds (fault.Refused r) before after h = h
 judges_stop X items p Taken Adds (fault.Stop s) before after h = h
-judges_stop X items p Taken Adds fault.NotBuilt before after h = h

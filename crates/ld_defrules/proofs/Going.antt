@@ -4,7 +4,7 @@ use Rattle.ld_terms.specs.Tree.{Tree, Star, Trees, ◌▸◌}
 use Rattle.ld_terms.specs.Entry.{Env, Entry}
 use Rattle.ld_terms.specs.Item.{tree}
 use Rattle.ld_terms.specs.Bank.{tree_at, IsTermAt}
-use Rattle.ld_terms.specs.Known.{Judgement, EntryNote, FlagNote, primitive_entry}
+use Rattle.ld_terms.specs.Known.{Judgement, EntryNote, FlagNote, line_entry, primitive_entry}
 use Rattle.ld_terms.specs.declared.bank.TermId.{TermId}
 use Rattle.ld_terms.proofs.Banks.{extends_trans, term_at_later}
 use Rattle.ld_record.specs.declared.record.JudgeId.{JudgeId}
@@ -13,7 +13,7 @@ use Rattle.ld_record.proofs.Keeping.{begins_trans}
 use Rattle.ld_record.proofs.Growing.{adds_trans}
 use Rattle.ld_infer.specs.Standing.{Standing, known, env, here, Continues, KnowsSort, AddsEntry, AddsFlag}
 use Rattle.ld_infer.specs.Infers.{HasSort}
-use Rattle.ld_defrules.specs.Judged.{primitive_of}
+use Rattle.ld_defrules.specs.Judged.{primitive_of, line_of}
 
 pub continues_trans : (a b c : Standing) → Continues a b → Continues b c → Continues a c
 continues_trans a b c h k = record {
@@ -64,6 +64,14 @@ adds_entry_after a b c e f h same k =
 pub same_primitive : (a b : Standing) (of : TermId) (name : List ℕ) → Continues a b → IsTermAt a.items of
     → primitive_entry name (here b (tree_at b.items of) Star) ≡ primitive_of name a.context (tree_at a.items of)
 same_primitive a b of name h at = ap (λ ctx. primitive_of name ctx (tree_at b.items of)) h.context ∙ ap (primitive_of name a.context) (tree_stays a b of h at)
+
+-- the entry of a line, in the words of before
+pub same_line : (a b : Standing) (body of : TermId) (name : List ℕ) → Continues a b → IsTermAt a.items body → IsTermAt a.items of
+    → line_entry name (here b (tree_at b.items body) (tree_at b.items of)) ≡ line_of name a.context (tree_at a.items body) (tree_at a.items of)
+same_line a b body of name h at_body at =
+    ap (λ ctx. line_of name ctx (tree_at b.items body) (tree_at b.items of)) h.context
+    ∙ ap (λ x. line_of name a.context x (tree_at b.items of)) (tree_stays a b body h at_body)
+    ∙ ap (line_of name a.context (tree_at a.items body)) (tree_stays a b of h at)
 
 pub adds_flag_after : (a b c : Standing) (of : TermId) → Continues a b → IsTermAt a.items of → AddsFlag b c (tree_at b.items of) → AddsFlag a c (tree_at a.items of)
 adds_flag_after a b c of h at k =

@@ -1,6 +1,9 @@
 pub mod Going
 pub mod Faults
 pub mod Lines
+pub mod Stated
 pub mod Readings
 pub mod Flags
 pub mod Names
+pub mod Once
+pub mod Rightness

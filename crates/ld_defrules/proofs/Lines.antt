@@ -9,13 +9,15 @@ use Rattle.ld_terms.specs.Item.{Item, One, Many, IsOne, tree}
 use Rattle.ld_terms.specs.Bank.{tree_at, item_at, IsTermAt}
 use Rattle.ld_terms.specs.declared.bank.TermId.{TermId}
 use Rattle.ld_infer.specs.declared.failure.RuleName.TheVariants.{Def}
+use Rattle.ld_infer.specs.declared.failure.Why.TheVariants as why
 use Rattle.ld_infer.specs.Infers.{StopsBy, refusal_of}
 use Rattle.ld_reduce.specs.declared.stop.Stop.{Stop}
-use Rattle.ld_reduce.specs.Task.{Task, Answer, Gives, Fails, NotBuilt, gives, fails, not_built, ◌>>◌}
+use Rattle.ld_reduce.specs.Task.{Task, Answer, Gives, Fails, gives, fails, ◌>>◌}
+use Rattle.ld_convert.specs.Apart.{apart}
 use Rattle.ld_infer.specs.Account.{Account, Comes}
-use Rattle.ld_infer.specs.Reading.{Refusal, found, compared}
-use Rattle.ld_reduce.proofs.Tasks.{gives_answers, fails_answers, not_built_answers}
-use Rattle.ld_infer.proofs.Accounts.{comes_at_once, comes_then, comes_faulted}
+use Rattle.ld_infer.specs.Reading.{Refusal, found}
+use Rattle.ld_reduce.proofs.Tasks.{gives_answers, fails_answers}
+use Rattle.ld_infer.proofs.Accounts.{comes_at_once, comes_then}
 use Rattle.ld_defrules.specs.declared.ItemFault.{ItemFault}
 use Rattle.ld_defrules.specs.declared.ItemFault.TheVariants as fault
 use Rattle.ld_defrules.specs.Judged.{other_type, type_judged, body_judged, same_as_stated, has_type, box_or_not, has_box, line_judging, line_judged, ItemStops, IsOtherType}
@@ -54,22 +56,31 @@ module _ (env : Env) (ctx : Trees) (body stated : Tree) where
   -- both are read, and the types are compared
   module _ (type sort : Tree) (comes : Bool) (before between after : Account) (not_box : is_box stated ≡ false)
       (sorted : Comes (type_judged env ctx Def stated) (Gives sort) before between) (typed : Comes (body_judged env ctx body) (Gives (found type comes)) between after) where
-    both_read : (r : Answer Refusal (Unit {0})) → Comes (same_as_stated env ctx (equals type stated) type stated) r after after → Comes (line_judged env ctx body stated) r before after
-    both_read r h =
-        line_comes r before after not_box
-        (comes_then (type_judged env ctx Def stated) (λ _. has_type env ctx body stated) sort r before between after sorted
-        (comes_then (body_judged env ctx body) (λ r. same_as_stated env ctx (equals r.type stated) r.type stated) (found type comes) r between after after typed h))
+    both_read : (r : Answer Refusal (Unit {0})) (last : Account) → Comes (same_as_stated env ctx (equals type stated) type stated) r after last → Comes (line_judged env ctx body stated) r before last
+    both_read r last h =
+        line_comes r before last not_box
+        (comes_then (type_judged env ctx Def stated) (λ _. has_type env ctx body stated) sort r before between last sorted
+        (comes_then (body_judged env ctx body) (λ r. same_as_stated env ctx (equals r.type stated) r.type stated) (found type comes) r between after last typed h))
 
     pub line_accepted : type ≡ stated → Comes (line_judged env ctx body stated) (Gives tt) before after
     line_accepted same =
         let P : Bool → Type 0 = λ b. Comes (same_as_stated env ctx b type stated) (Gives tt) after after in
-        both_read (Gives tt) (subst P (sym (equal_trees type stated same)) (given after))
+        both_read (Gives tt) after (subst P (sym (equal_trees type stated same)) (given after))
 
-    pub line_not_built : (type ≡ stated → ⊥) → Comes (line_judged env ctx body stated) NotBuilt before after
-    line_not_built other =
-        let P : Bool → Type 0 = λ b. Comes (same_as_stated env ctx b type stated) NotBuilt after after in
-        both_read NotBuilt (subst P (sym (other_trees type stated other))
-        (comes_faulted (other_type ctx type stated) (compared env type stated) NotBuilt after after (comes_at_once not_built NotBuilt after (not_built_answers after.known))))
+    -- the type found isn't the one stated, and is compared with it
+    pub line_same : (last : Account) → (type ≡ stated → ⊥) → Comes (same_as_stated env ctx false type stated) (Gives tt) after last → Comes (line_judged env ctx body stated) (Gives tt) before last
+    line_same last other h =
+        let P : Bool → Type 0 = λ b. Comes (same_as_stated env ctx b type stated) (Gives tt) after last in
+        both_read (Gives tt) last (subst P (sym (other_trees type stated other)) h)
+
+    pub line_faulted : (items : List Item) (f : ItemFault) (last : Account) → (type ≡ stated → ⊥) → ItemStops items (same_as_stated env ctx false type stated) f after last
+        → ItemStops items (line_judged env ctx body stated) f before last
+    line_faulted items f last other h =
+        let P : Bool → Type 0 = λ b. ItemStops items (same_as_stated env ctx b type stated) f after last in
+        line_stops items f before last not_box
+        (item_stops_then items (type_judged env ctx Def stated) (λ _. has_type env ctx body stated) sort f before between last sorted
+        (item_stops_then items (body_judged env ctx body) (λ r. same_as_stated env ctx (equals r.type stated) r.type stated) (found type comes) f between after last typed
+        (subst P (sym (other_trees type stated other)) h)))
 
 -- lines whose stated type is the word box
 module _ (env : Env) (ctx : Trees) (body : Tree) where
@@ -82,26 +93,25 @@ module _ (env : Env) (ctx : Trees) (body : Tree) where
       comes_then (body_judged env ctx body) (λ r. box_or_not env ctx (is_box r.type) r.type) (found type comes) (Gives tt) before after after typed (subst P (sym box) (given after))
 
   box_fails : (type : Tree) (comes : Bool) (before after : Account) → (type ≡ Box → ⊥) → Comes (body_judged env ctx body) (Gives (found type comes)) before after
-      → Comes (has_box env ctx body) (Fails (other_type ctx type Box (record { left = type; right = Box; under = 0 }))) before after
+      → Comes (has_box env ctx body) (Fails (other_type ctx type Box (apart type Box 0))) before after
   box_fails type comes before after other typed =
-      let fault = other_type ctx type Box (record { left = type; right = Box; under = 0 }) in
+      let fault = other_type ctx type Box (apart type Box 0) in
       let P : Bool → Type 0 = λ b. Comes (box_or_not env ctx b type) (Fails fault) after after in
       comes_then (body_judged env ctx body) (λ r. box_or_not env ctx (is_box r.type) r.type) (found type comes) (Fails fault) before after after typed
       (subst P (sym (no_box type other)) (comes_at_once (fails fault) (Fails fault) after (fails_answers fault after.known)))
 
   -- a type other than box is refused
   pub box_refused : (items : List Item) (type stated : TermId) (comes : Bool) (f : ItemFault) (before after : Account) → tree_at items stated ≡ Box → (tree_at items type ≡ Box → ⊥)
-      → Comes (body_judged env ctx body) (Gives (found (tree_at items type) comes)) before after → IsOtherType items ctx type stated f → ItemStops items (has_box env ctx body) f before after
+      → Comes (body_judged env ctx body) (Gives (found (tree_at items type) comes)) before after → IsOtherType items ctx (why.NotSame type stated type stated 0) f → ItemStops items (has_box env ctx body) f before after
   box_refused items type stated comes (fault.Refused r) before after box other typed is =
       let t = tree_at items type in
-      let P : Tree → Type 0 = λ w. refusal_of items r ≡ other_type ctx t w (record { left = t; right = w; under = 0 }) in
+      let P : Tree → Type 0 = λ w. refusal_of items r ≡ other_type ctx t w (apart t w 0) in
       let Q : Refusal → Type 0 = λ x. Comes (has_box env ctx body) (Fails x) before after in
       subst Q (sym (subst P box is)) (box_fails t comes before after other typed)
   box_refused items type stated comes (fault.Stop s) before after box other typed is =
       let P : Stop → Type 0 = λ x. StopsBy (has_box env ctx body) x before after in
       subst P (sym is) tt
   box_refused items type stated comes fault.NameTaken before after box other typed is = absurd is
-  box_refused items type stated comes fault.NotBuilt before after box other typed is = absurd is
 
 -- only box is box
 pub box_only : (t : Tree) → is_box t ≡ true → t ≡ Box

@@ -12,12 +12,15 @@ use Rattle.ld_infer.specs.declared.failure.RuleName.{RuleName}
 use Rattle.ld_infer.specs.declared.failure.RuleName.TheVariants.{Weak, Def, DefPrim}
 use Rattle.ld_infer.specs.declared.failure.PathStep.TheVariants.{Of, Body}
 use Rattle.ld_infer.specs.declared.failure.InferFault.{InferFault}
+use Rattle.ld_infer.specs.declared.failure.Why.{Why}
 use Rattle.ld_infer.specs.declared.failure.InferFault.TheVariants as infer
-use Rattle.ld_reduce.specs.Task.{Task, Gives, Fails, NotBuilt, gives, fails, ◌>>=◌, ◌>>◌, faults_by}
+use Rattle.ld_reduce.specs.Task.{Task, Gives, Fails, gives, fails, ◌>>=◌, ◌>>◌, faults_by}
+use Rattle.ld_convert.specs.Apart.{Apart, apart}
+use Rattle.ld_convert.specs.Compares.{Compares}
 use Rattle.ld_infer.specs.Account.{Account, Comes}
-use Rattle.ld_infer.specs.Reading.{Refusal, refusal, inside, within, Apart, NotSame, Found, compared, Types, SortOf}
+use Rattle.ld_infer.specs.Reading.{Refusal, refusal, inside, within, NotSame, Found, Types, SortOf}
 use Rattle.ld_infer.specs.Standing.{Standing, known, here, KnowsSort}
-use Rattle.ld_infer.specs.Infers.{StopsBy, IsTyped, refusal_of}
+use Rattle.ld_infer.specs.Infers.{StopsBy, IsTyped, reason_of, refusal_of}
 use Rattle.ld_infer.specs.declared.inference.Typed.{Typed}
 use Rattle.ld_reduce.specs.declared.stop.Stop.TheVariants as Stop
 use Rattle.ld_defrules.specs.declared.ItemFault.{ItemFault}
@@ -46,7 +49,7 @@ module _ (env : Env) (ctx : Trees) where
   -- the type found is the one stated, or is compared with it
   abbrev pub same_as_stated : (equal : Bool) → (type stated : Tree) → Task Refusal (Unit {0})
   same_as_stated true type stated = gives tt
-  same_as_stated false type stated = faults_by (other_type ctx type stated) (compared env type stated)
+  same_as_stated false type stated = faults_by (other_type ctx type stated) (Compares env 1 type stated)
 
   abbrev pub has_type : (body stated : Tree) → Task Refusal (Unit {0})
   has_type body stated = body_judged body >>= λ r. same_as_stated (equals r.type stated) r.type stated
@@ -54,7 +57,7 @@ module _ (env : Env) (ctx : Trees) where
   -- The word box itself has no sort, and is the type of a body without a comparison.
   abbrev pub box_or_not : (box : Bool) → (type : Tree) → Task Refusal (Unit {0})
   box_or_not true type = gives tt
-  box_or_not false type = fails (other_type ctx type Box (record { left = type; right = Box; under = 0 }))
+  box_or_not false type = fails (other_type ctx type Box (apart type Box 0))
 
   abbrev pub has_box : (body : Tree) → Task Refusal (Unit {0})
   has_box body = body_judged body >>= λ r. box_or_not (is_box r.type) r.type
@@ -79,7 +82,6 @@ abbrev pub ItemStops : {X : Type 0} → List Item → Task Refusal X → ItemFau
 ItemStops items p fault.NameTaken before after = ⊥
 ItemStops items p (fault.Refused f) before after = Comes p (Fails (refusal_of items f)) before after
 ItemStops items p (fault.Stop s) before after = StopsBy p s before after
-ItemStops items p fault.NotBuilt before after = Comes p NotBuilt before after
 
 -- An item is accepted, with what it adds; or it is refused. Taken says that its name is taken.
 abbrev pub Judges : List Item → Task Refusal (Unit {0}) → (Taken Adds : Type 0) → (before after : Account) → {X : Type 0} → Result X ItemFault → Type 0
@@ -87,7 +89,6 @@ Judges items p Taken Adds before after (Ok x) = Comes p (Gives tt) before after 
 Judges items p Taken Adds before after (Err fault.NameTaken) = Taken
 Judges items p Taken Adds before after (Err (fault.Refused f)) = ItemStops items p (fault.Refused f) before after
 Judges items p Taken Adds before after (Err (fault.Stop s)) = ItemStops items p (fault.Stop s) before after
-Judges items p Taken Adds before after (Err fault.NotBuilt) = ItemStops items p fault.NotBuilt before after
 
 -- the judgement of an item's type and a sort, where the task gives a sort
 abbrev pub SortsType : (old new : Standing) → Task Refusal Tree → TermId → (before after : Account) → Result JudgeId ItemFault → Type 0
@@ -104,15 +105,12 @@ abbrev pub BodyTypes : (old new : Standing) → Task Refusal Found → (body : T
 BodyTypes old new p body before after (Ok r) = IsTyped old new p body before after r
 BodyTypes old new p body before after (Err f) = ItemStops new.items p f before after
 
--- the fault is that a body has another type than the stated one, with which it isn't compared
-abbrev pub IsOtherType : List Item → Trees → (found wanted : TermId) → ItemFault → Type 0
-IsOtherType items ctx t n (fault.Refused f) =
-    refusal_of items f ≡ other_type ctx (tree_at items t) (tree_at items n) (record { left = tree_at items t; right = tree_at items n; under = 0 })
-IsOtherType items ctx t n (fault.Stop s) = s ≡ Stop.Memory
-IsOtherType items ctx t n fault.NameTaken = ⊥
-IsOtherType items ctx t n fault.NotBuilt = ⊥
+-- the fault is that a body has another type than the stated one, for this reason
+abbrev pub IsOtherType : List Item → Trees → Why → ItemFault → Type 0
+IsOtherType items ctx why (fault.Refused f) = refusal_of items f ≡ inside Body (refusal (Def, 2) (count ctx) (reason_of items why))
+IsOtherType items ctx why (fault.Stop s) = s ≡ Stop.Memory
+IsOtherType items ctx why fault.NameTaken = ⊥
 
 abbrev pub item_fault : InferFault → ItemFault
 item_fault (infer.Refused f) = fault.Refused f
 item_fault (infer.Stop s) = fault.Stop s
-item_fault infer.NotBuilt = fault.NotBuilt

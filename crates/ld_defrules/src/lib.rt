@@ -8,16 +8,19 @@ ghost use Rattle.ld_terms.specs.Tests.{is_box};
 ghost use Rattle.ld_terms.specs.Entry.{IsFresh};
 ghost use Rattle.ld_terms.specs.Item.{Item};
 ghost use Rattle.ld_terms.specs.Bank.{tree_at, IsTermAt};
-ghost use Rattle.ld_infer.specs.Standing.{env, Continues, Goes, AddsEntry, AddsFlag, without};
+ghost use Rattle.ld_record.specs.Growth.{Knows};
+ghost use Rattle.ld_infer.specs.Standing.{known, env, here, account, Continues, Goes, AddsEntry, AddsFlag, KnowsSort, KnowsPairs, without};
 ghost use Rattle.ld_infer.specs.Infers.{IsReadable, Infers};
-ghost use Rattle.ld_defrules.specs.Judged.{Judges, flag_judged, primitive_judged, type_judged, body_judged, line_judged, primitive_of, line_of, has_box, SortsType, TypesLine, BodyTypes, IsOtherType};
+ghost use Rattle.ld_defrules.specs.Judged.{Judges, flag_judged, primitive_judged, type_judged, body_judged, line_judged, primitive_of, line_of, same_as_stated, has_box, SortsType, TypesLine, BodyTypes, IsOtherType};
 ghost use Rattle.ld_env.specs.Named.{names_of};
 
+pub mod laws;
+
+use ld_convert::{Compared, Job};
 use ld_infer::{
-    Failure, InferFault, Job, Path, PathStep, RuleName, Stop, Theory, Typed, Why, infer, sort_of,
-    within,
+    Failure, InferFault, Path, PathStep, RuleName, Stop, Theory, Typed, Why, infer, sort_of, within,
 };
-use ld_record::JudgeId;
+use ld_record::{JudgeId, Step};
 use ld_terms::{Node, TermId};
 use std::alloc::Global;
 use thiserror::Error;
@@ -31,8 +34,6 @@ pub enum ItemFault {
     Refused(Failure),
     #[error("the check stops")]
     Stop(Stop),
-    #[error("a form of judging is not built")]
-    NotBuilt,
 }
 
 impl From<InferFault> for ItemFault {
@@ -45,7 +46,6 @@ impl From<InferFault> for ItemFault {
         match fault {
             InferFault::Refused(failure) => ItemFault::Refused(failure),
             InferFault::Stop(stop) => ItemFault::Stop(stop),
-            InferFault::NotBuilt => ItemFault::NotBuilt,
         }
     }
 }
@@ -60,11 +60,12 @@ pub fn open_flag(
 ) -> Result<(), ItemFault>
     requires of { IsReadable theory.old of }
     requires deep { count theory.old.context + 1001 < 2 ^ 32 }
+    requires pairs { KnowsPairs theory.old job.old.known }
     ensures judges { Judges theory.new.items (flag_judged (env theory.old) theory.old.context (tree_at theory.old.items of))
-        ⊥ (AddsFlag theory.old theory.new (tree_at theory.old.items of)) job.old job.new result }
+        ⊥ (AddsFlag theory.old theory.new (tree_at theory.old.items of)) (account theory.old job.old) (account theory.new job.new) result }
     ensures goes { Goes theory.old theory.new }
     ensures err { OnErr result (Continues theory.old theory.new) }
-    ensures most { job.new.left ≤ job.old.left }
+    ensures most { job.new.budget.left ≤ job.old.budget.left }
 {
     let judge = type_sort(alloc, theory, RuleName::Weak, of, job)?;
     match theory.open_flag(of, judge) {
@@ -98,14 +99,15 @@ pub fn primitive(
     requires short { length name.now ≤ 255 }
     requires room { length (env theory.old) + 1 < 2 ^ 32 }
     requires deep { count theory.old.context + 1001 < 2 ^ 32 }
+    requires pairs { KnowsPairs theory.old job.old.known }
     ensures judges { Judges theory.new.items (primitive_judged (env theory.old) theory.old.context (tree_at theory.old.items of))
         (Contains (names_of theory.old.entries) name.now)
-        (AddsEntry theory.old theory.new (primitive_of name.now theory.old.context (tree_at theory.old.items of))) job.old job.new result }
+        (AddsEntry theory.old theory.new (primitive_of name.now theory.old.context (tree_at theory.old.items of))) (account theory.old job.old) (account theory.new job.new) result }
     ensures number { IfOk result (λ k. k ≡ length (env theory.old)) }
     ensures taken { (result ≡ Err ItemFault.NameTaken) ↔ Contains (names_of theory.old.entries) name.now }
     ensures goes { Goes theory.old theory.new }
     ensures err { OnErr result (Continues theory.old theory.new) }
-    ensures most { job.new.left ≤ job.old.left }
+    ensures most { job.new.budget.left ≤ job.old.budget.left }
 {
     if is_taken(theory, name) {
         return Err(ItemFault::NameTaken);
@@ -134,14 +136,15 @@ pub fn define(
     requires short { length name.now ≤ 255 }
     requires room { length (env theory.old) + 1 < 2 ^ 32 }
     requires deep { count theory.old.context + 1001 < 2 ^ 32 }
+    requires pairs { KnowsPairs theory.old job.old.known }
     ensures judges { Judges theory.new.items (line_judged (env theory.old) theory.old.context (tree_at theory.old.items body) (tree_at theory.old.items of))
         (Contains (names_of theory.old.entries) name.now)
-        (AddsEntry theory.old theory.new (line_of name.now theory.old.context (tree_at theory.old.items body) (tree_at theory.old.items of))) job.old job.new result }
+        (AddsEntry theory.old theory.new (line_of name.now theory.old.context (tree_at theory.old.items body) (tree_at theory.old.items of))) (account theory.old job.old) (account theory.new job.new) result }
     ensures number { IfOk result (λ k. k ≡ length (env theory.old)) }
     ensures taken { (result ≡ Err ItemFault.NameTaken) ↔ Contains (names_of theory.old.entries) name.now }
     ensures goes { Goes theory.old theory.new }
     ensures err { OnErr result (Continues theory.old theory.new) }
-    ensures most { job.new.left ≤ job.old.left }
+    ensures most { job.new.budget.left ≤ job.old.budget.left }
 {
     if is_taken(theory, name) {
         return Err(ItemFault::NameTaken);
@@ -171,9 +174,11 @@ fn type_sort(
 ) -> Result<JudgeId, ItemFault>
     requires of { IsReadable theory.old of }
     requires deep { count theory.old.context + 1001 < 2 ^ 32 }
-    ensures answer { SortsType theory.old theory.new (type_judged (env theory.old) theory.old.context rule (tree_at theory.old.items of)) of job.old job.new result }
+    requires pairs { KnowsPairs theory.old job.old.known }
+    ensures answer { SortsType theory.old theory.new (type_judged (env theory.old) theory.old.context rule (tree_at theory.old.items of)) of (account theory.old job.old) (account theory.new job.new) result }
     ensures continues { Continues theory.old theory.new }
-    ensures most { job.new.left ≤ job.old.left }
+    ensures pairs { KnowsPairs theory.new job.new.known }
+    ensures most { job.new.budget.left ≤ job.old.budget.left }
 {
     match sort_of(alloc, theory, (rule, 2), of, 1, job) {
         Ok(sort) => Ok(sort.1),
@@ -190,9 +195,11 @@ fn body_type(
 ) -> Result<Typed, ItemFault>
     requires body { IsReadable theory.old body }
     requires deep { count theory.old.context + 1001 < 2 ^ 32 }
-    ensures answer { BodyTypes theory.old theory.new (body_judged (env theory.old) theory.old.context (tree_at theory.old.items body)) body job.old job.new result }
+    requires pairs { KnowsPairs theory.old job.old.known }
+    ensures answer { BodyTypes theory.old theory.new (body_judged (env theory.old) theory.old.context (tree_at theory.old.items body)) body (account theory.old job.old) (account theory.new job.new) result }
     ensures continues { Continues theory.old theory.new }
-    ensures most { job.new.left ≤ job.old.left }
+    ensures pairs { KnowsPairs theory.new job.new.known }
+    ensures most { job.new.budget.left ≤ job.old.budget.left }
 {
     match infer(alloc, theory, (RuleName::Def, 2), body, 1, job) {
         Ok(typed) => Ok(typed),
@@ -211,19 +218,64 @@ fn line_judgement(
     requires body { IsReadable theory.old body }
     requires of { IsReadable theory.old of }
     requires deep { count theory.old.context + 1001 < 2 ^ 32 }
-    ensures answer { TypesLine theory.old theory.new (line_judged (env theory.old) theory.old.context (tree_at theory.old.items body) (tree_at theory.old.items of)) body of job.old job.new result }
+    requires pairs { KnowsPairs theory.old job.old.known }
+    ensures answer { TypesLine theory.old theory.new (line_judged (env theory.old) theory.old.context (tree_at theory.old.items body) (tree_at theory.old.items of)) body of (account theory.old job.old) (account theory.new job.new) result }
     ensures continues { Continues theory.old theory.new }
-    ensures most { job.new.left ≤ job.old.left }
+    ensures pairs { KnowsPairs theory.new job.new.known }
+    ensures most { job.new.budget.left ≤ job.old.budget.left }
 {
     if is_box(theory, of) {
         return box_judgement(alloc, theory, body, of, job);
     }
-    type_sort(alloc, theory, RuleName::Def, of, job)?;
+    let sort = type_sort(alloc, theory, RuleName::Def, of, job)?;
     let typed = body_type(alloc, theory, body, job)?;
     if theory.bank().same(typed.of, of) {
-        Ok(typed.judge)
-    } else {
-        Err(ItemFault::NotBuilt)
+        return Ok(typed.judge);
+    }
+    compared_judgement(alloc, theory, body, of, typed, sort, job)
+}
+
+// The same where the type found isn't the stated one as it stands: the two are compared. The stated type has a sort.
+fn compared_judgement(
+    alloc: Global,
+    theory: &mut Theory,
+    body: TermId,
+    of: TermId,
+    typed: Typed,
+    sort: JudgeId,
+    job: &mut Job,
+) -> Result<JudgeId, ItemFault>
+    requires body { IsTermAt theory.old.items body }
+    requires of { IsReadable theory.old of }
+    requires found { IsTermAt theory.old.items typed.of }
+    requires judge { Knows (known theory.old) typed.judge (here theory.old (tree_at theory.old.items body) (tree_at theory.old.items typed.of)) }
+    requires sort { KnowsSort theory.old sort (tree_at theory.old.items of) }
+    requires deep { count theory.old.context < 2 ^ 32 }
+    requires pairs { KnowsPairs theory.old job.old.known }
+    ensures answer { TypesLine theory.old theory.new
+        (same_as_stated (env theory.old) theory.old.context false (tree_at theory.old.items typed.of) (tree_at theory.old.items of)) body of (account theory.old job.old) (account theory.new job.new) result }
+    ensures continues { Continues theory.old theory.new }
+    ensures pairs { KnowsPairs theory.new job.new.known }
+    ensures most { job.new.budget.left ≤ job.old.budget.left }
+{
+    match theory.compare(alloc, typed, of, 1, job) {
+        Ok(Compared::Same(equal)) => {
+            match theory.conclude(body, of, Step::Conv(typed.judge, sort, equal)) {
+                Ok(judge) => Ok(judge),
+                Err(_) => Err(ItemFault::Stop(Stop::Memory)),
+            }
+        }
+        Ok(Compared::Apart { left, right, under }) => {
+            let why = Why::NotSame {
+                found: typed.of,
+                wanted: of,
+                left,
+                right,
+                under,
+            };
+            Err(other_type(alloc, theory, why))
+        }
+        Err(stop) => Err(ItemFault::Stop(stop)),
     }
 }
 
@@ -247,22 +299,31 @@ fn box_judgement(
     requires of { IsTermAt theory.old.items of }
     requires stated { is_box (tree_at theory.old.items of) ≡ true }
     requires deep { count theory.old.context + 1001 < 2 ^ 32 }
-    ensures answer { TypesLine theory.old theory.new (has_box (env theory.old) theory.old.context (tree_at theory.old.items body)) body of job.old job.new result }
+    requires pairs { KnowsPairs theory.old job.old.known }
+    ensures answer { TypesLine theory.old theory.new (has_box (env theory.old) theory.old.context (tree_at theory.old.items body)) body of (account theory.old job.old) (account theory.new job.new) result }
     ensures continues { Continues theory.old theory.new }
-    ensures most { job.new.left ≤ job.old.left }
+    ensures pairs { KnowsPairs theory.new job.new.known }
+    ensures most { job.new.budget.left ≤ job.old.budget.left }
 {
     let typed = body_type(alloc, theory, body, job)?;
     if theory.bank().same(typed.of, of) {
         Ok(typed.judge)
     } else {
-        Err(not_box(alloc, theory, typed.of, of))
+        let why = Why::NotSame {
+            found: typed.of,
+            wanted: of,
+            left: typed.of,
+            right: of,
+            under: 0,
+        };
+        Err(other_type(alloc, theory, why))
     }
 }
 
-// The refusal of a body whose type is not box.
-fn not_box(alloc: Global, theory: &Theory, found: TermId, wanted: TermId) -> ItemFault
+// The refusal of a body whose type is another than the stated one.
+fn other_type(alloc: Global, theory: &Theory, why: Why) -> ItemFault
     requires { count theory.now.context < 2 ^ 32 }
-    ensures { (items : List Item) → IsOtherType items theory.now.context found wanted result }
+    ensures { (items : List Item) → IsOtherType items theory.now.context why result }
 {
     let mut path = Path::new(alloc);
     if path.within(PathStep::Body).is_err() {
@@ -273,12 +334,6 @@ fn not_box(alloc: Global, theory: &Theory, found: TermId, wanted: TermId) -> Ite
         premise: 2,
         path,
         depth: theory.depth(),
-        why: Why::NotSame {
-            found,
-            wanted,
-            left: found,
-            right: wanted,
-            under: 0,
-        },
+        why,
     })
 }

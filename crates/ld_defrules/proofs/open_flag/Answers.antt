@@ -1,8 +1,10 @@
 use Rattle.std.proofs.lemmas.Result.{err_from_is_err_and}
 use Rattle.ld_terms.specs.Bank.{tree_at}
 use Rattle.ld_infer.specs.declared.failure.RuleName.TheVariants.{Weak}
-use Rattle.ld_infer.specs.Standing.{env, AddsFlag}
-use Rattle.ld_reduce.specs.Task.{gives}
+use Rattle.ld_infer.specs.Account.{Comes}
+use Rattle.ld_infer.specs.Standing.{env, account, AddsFlag}
+use Rattle.ld_infer.proofs.Pairs.{told_extended}
+use Rattle.ld_reduce.specs.Task.{Gives, gives}
 use Rattle.ld_defrules.specs.Judged.{type_judged, flag_judged}
 use Rattle.ld_defrules.proofs.Faults.{item_stops_first, judges_stop}
 use Rattle.ld_defrules.proofs.Going.{adds_flag_after, continues_trans}
@@ -22,7 +24,9 @@ returns-in_err-judge-clause-judges c =
 
 pub returns-in-Ok-clause-judges : goal.returns-in-Ok-clause-judges
 returns-in-Ok-clause-judges c = (
-  asked _ _ _ _ c.in_ok-judge.ensures.answer.0.1,
+  told_extended c.type_sort.new.theory c.open_flag.new.self c.type_sort.new.job
+      (λ w. Comes (flag_judged (env c.args.theory.now) c.args.theory.now.context (tree_at c.args.theory.now.items c.args.of)) (Gives tt) (account c.args.theory.now c.args.job.now) w) c.open_flag.ensures.goes.items c.type_sort.ensures.pairs
+      (asked _ _ _ _ c.in_ok-judge.ensures.answer.0.1),
   adds_flag_after c.args.theory.now c.type_sort.new.theory _ c.args.of c.type_sort.ensures.continues c.requires.of.0 c.in-Ok.ensures.ok,
 )
 

@@ -3,8 +3,10 @@ use Rattle.std.proofs.lemmas.Result.{err_from_is_err_and}
 use Rattle.ld_terms.specs.Bank.{tree_at}
 use Rattle.ld_env.specs.Named.{names_of}
 use Rattle.ld_infer.specs.declared.failure.RuleName.TheVariants.{DefPrim}
-use Rattle.ld_infer.specs.Standing.{env, AddsEntry}
-use Rattle.ld_reduce.specs.Task.{gives}
+use Rattle.ld_infer.specs.Account.{Comes}
+use Rattle.ld_infer.specs.Standing.{env, account, AddsEntry}
+use Rattle.ld_infer.proofs.Pairs.{told_extended}
+use Rattle.ld_reduce.specs.Task.{Gives, gives}
 use Rattle.ld_defrules.specs.Judged.{type_judged, primitive_judged, primitive_of}
 use Rattle.ld_defrules.proofs.Faults.{item_stops_first, judges_stop}
 use Rattle.ld_defrules.proofs.Going.{adds_entry_after, same_primitive}
@@ -27,6 +29,7 @@ pub returns-in-Ok-clause-judges : goal.returns-in-Ok-clause-judges
 returns-in-Ok-clause-judges c =
     let old = c.args.theory.now in
     let now = c.type_sort.new.theory in (
-      asked _ _ _ _ c.in_ok-judge.ensures.answer.0.1,
+      told_extended now c.keep_primitive.new.self c.type_sort.new.job (λ w. Comes (primitive_judged (env old) old.context (tree_at old.items c.args.of)) (Gives tt) (account old c.args.job.now) w)
+          c.keep_primitive.ensures.goes.items c.type_sort.ensures.pairs (asked _ _ _ _ c.in_ok-judge.ensures.answer.0.1),
       adds_entry_after old now _ _ _ c.type_sort.ensures.continues (same_primitive old now c.args.of c.args.name.now c.type_sort.ensures.continues c.requires.of.0) c.in-Ok.ensures.ok,
     )
