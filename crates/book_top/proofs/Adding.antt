@@ -9,7 +9,8 @@ use Rattle.ld_terms.specs.Entry.{Env, Entry}
 use Rattle.ld_terms.specs.Known.{FlagNote, EntryNote, primitive_entry, no_judgement}
 use Rattle.ld_record.specs.Follows.{entry_at}
 use Rattle.ld_reduce.specs.Task.{Task, Answer, Gives, Answers}
-use Rattle.ld_infer.specs.Account.{Account, account, Comes}
+use Rattle.ld_reduce.specs.Work.{work}
+use Rattle.ld_infer.specs.Account.{Account, account_by, Comes}
 use Rattle.ld_infer.specs.Reading.{Refusal}
 use Rattle.ld_infer.specs.Standing.{Standing, known, env, Continues, AddsEntry, AddsFlag}
 use Rattle.ld_reduce.specs.declared.stop.Stop.TheVariants as check
@@ -34,7 +35,11 @@ use Rattle.book_top.specs.Told.{Costs, StopsReading, IsJudged, judge_stop}
 pub same_task : (P : Env → Trees → Tree → Type 0) (e e' : Env) (c c' : Trees) (t t' : Tree) → e ≡ e' → c ≡ c' → t ≡ t' → P e c t → P e' c' t'
 same_task P e e' c c' t t' p q r h = subst (λ x. P x c' t') p (subst (λ x. P e x t') q (subst (λ x. P e c x) r h))
 
-pub costs_of : (p : Task Refusal (Unit {0})) (budget : ℕ) (answer : Answer Refusal (Unit {0})) (before after : Account) → before ≡ account budget 0 → Comes p answer before after → Costs p budget answer after.spent
+-- the account of a job in which no step is made
+abbrev pub begins : ℕ → Account
+begins budget = account_by (work budget 0) []
+
+pub costs_of : (p : Task Refusal (Unit {0})) (budget : ℕ) (answer : Answer Refusal (Unit {0})) (before after : Account) → before ≡ begins budget → Comes p answer before after → Costs p budget answer after.spent
 costs_of p budget answer before after is comes =
     let c = subst (λ x. Comes p answer x after) is comes in
     let n : c.steps ≡ after.spent = omega (arith, c.takes.spent) in
@@ -46,7 +51,7 @@ costs_of p budget answer before after is comes =
 
 -- a fault of the judging of a reading
 pub judging_stops : (X Taken Adds : Type 0) (budget : ℕ) (b : Book) (items : List Item) (at : Span) (r : Reading) (before after : Account) (f : ItemFault)
-    → IsSmallReading r → before ≡ account budget 0 → (Taken → ⊥) → Judges items (judging b r) Taken Adds before after {X = X} (Err f) → StopsReading budget b items at r (judge_stop at f)
+    → IsSmallReading r → before ≡ begins budget → (Taken → ⊥) → Judges items (judging b r) Taken Adds before after {X = X} (Err f) → StopsReading budget b items r (judge_stop at f)
 judging_stops X Taken Adds budget b items at r before after fault.NameTaken small is free h = absurd (free h)
 judging_stops X Taken Adds budget b items at r before after (fault.Refused f) small is free h = (small, (after.spent, costs_of (judging b r) budget _ before after is h))
 judging_stops X Taken Adds budget b items at r before after (fault.Stop check.Spent) small is free h =
@@ -54,7 +59,6 @@ judging_stops X Taken Adds budget b items at r before after (fault.Stop check.Sp
 judging_stops X Taken Adds budget b items at r before after (fault.Stop check.High) small is free h = (small, (after.spent, costs_of (judging b r) budget _ before after is h))
 judging_stops X Taken Adds budget b items at r before after (fault.Stop check.Nested) small is free h = (small, (after.spent, costs_of (judging b r) budget _ before after is h))
 judging_stops X Taken Adds budget b items at r before after (fault.Stop check.Memory) small is free h = tt
-judging_stops X Taken Adds budget b items at r before after fault.NotBuilt small is free h = (small, (after.spent, costs_of (judging b r) budget _ before after is h), refl)
 
 abbrev made : Env → Trees → State → Book
 made e c s = record { env = e; context = c; scope = s }
@@ -63,7 +67,7 @@ book_same : (e e' : Env) (c c' : Trees) (s s' : State) → e ≡ e' → c ≡ c'
 book_same e e' c c' s s' p q r = λ i. made (p i) (q i) (r i)
 
 pub flag_judged_so : (budget : ℕ) (old mid new : Standing) (s after : State) (name : List ℕ) (t u : Tree) (job done : Account) (n : ℕ)
-    → Continues old mid → u ≡ t → IsSmall (One t) → job ≡ account budget 0 → n ≡ done.spent → after ≡ entered name s
+    → Continues old mid → u ≡ t → IsSmall (One t) → job ≡ begins budget → n ≡ done.spent → after ≡ entered name s
     → Comes (flag_judged (env mid) mid.context u) (Gives tt) job done × AddsFlag mid new u → IsJudged budget old new s after name (Flag t) n
 flag_judged_so budget old mid new s after name t u job done n on is small began spent entering h =
     let comes = same_task (λ e c x. Comes (flag_judged e c x) (Gives tt) job done) (env mid) (env old) mid.context old.context u t on.adds.env on.context is h.0 in
@@ -75,7 +79,7 @@ flag_judged_so budget old mid new s after name t u job done n on is small began 
     }
 
 pub entry_judged_so : (budget : ℕ) (old mid new : Standing) (s after : State) (name : List ℕ) (r : Reading) (e d : Entry) (done : Account) (n : ℕ) (job : Account)
-    → Continues old mid → d ≡ e → IsSmallReading r → job ≡ account budget 0 → n ≡ done.spent → after ≡ noted s
+    → Continues old mid → d ≡ e → IsSmallReading r → job ≡ begins budget → n ≡ done.spent → after ≡ noted s
     → Comes (judging (book_of old s) r) (Gives tt) job done → AddsEntry mid new d
     → (book_of new after ≡ with_entry e (book_of old s)) × ((known new).notes ≡ (known old).notes ++ EntryNote e ∷ []) × Costs (judging (book_of old s) r) budget (Gives tt) n
 entry_judged_so budget old mid new s after name r e d done n job on is small began spent noting comes adds = (

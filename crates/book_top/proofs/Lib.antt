@@ -21,3 +21,7 @@ pub mod Runs
 pub mod Fetching
 pub mod Stops
 pub mod Reports
+pub mod Complete
+pub mod OneVerdict
+pub mod Rightness
+pub mod Growing

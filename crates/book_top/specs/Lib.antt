@@ -15,3 +15,7 @@ pub mod Chunks
 pub mod Checked
 pub mod Said
 pub mod Fetched
+pub mod Complete
+pub mod Laws
+pub mod Rightness
+pub mod Growing

@@ -4,7 +4,7 @@ use Rattle.std.specs.Str.{bytes_eq}
 use Rattle.ld_terms.specs.Item.{Item}
 use Rattle.ld_terms.specs.declared.bank.TermFault.{TermFault}
 use Rattle.ld_terms.specs.declared.bank.TermFault.TheVariants as term
-use Rattle.ld_reduce.specs.Task.{Task, Pairs, Answer, Gives, Fails, High, Nested, NotBuilt, Answers}
+use Rattle.ld_reduce.specs.Task.{Task, Pairs, Answer, Gives, Fails, High, Nested, Answers}
 use Rattle.ld_infer.specs.Reading.{Refusal}
 use Rattle.ld_infer.specs.Infers.{refusal_of}
 use Rattle.ld_infer.specs.Standing.{Standing, known}
@@ -98,7 +98,6 @@ check_stop check.Memory = stop.Memory
 abbrev pub judge_stop : Span → ItemFault → ItemStop
 judge_stop at (fault.Refused f) = stop.Refused f
 judge_stop at (fault.Stop s) = check_stop s
-judge_stop at fault.NotBuilt = stop.Text (fault_at what.NotBuilt at)
 judge_stop at fault.NameTaken = stop.Text (fault_at what.NameTaken at)
 
 -- the answer of a judging, which has no other, at a cost up to the budget
@@ -111,16 +110,16 @@ abbrev pub IsAnswer : Task Refusal (Unit {0}) → ℕ → Answer Refusal (Unit {
 IsAnswer p budget answer = (n : ℕ) × Costs p budget answer n
 
 -- why an item that was read isn't accepted; want of memory is free
-abbrev pub StopsReading : (budget : ℕ) → Book → List Item → Span → Reading → ItemStop → Type 0
-StopsReading budget b items at r (stop.Text f) = IsSmallReading r × IsAnswer (judging b r) budget NotBuilt × (f ≡ fault_at what.NotBuilt at)
-StopsReading budget b items at r stop.ManyFlags = ⊥
-StopsReading budget b items at r stop.High = IsSmallReading r → ⊥
-StopsReading budget b items at r (stop.Refused f) = IsSmallReading r × IsAnswer (judging b r) budget (Fails (refusal_of items f))
-StopsReading budget b items at r (stop.Budget want.Steps) =
+abbrev pub StopsReading : (budget : ℕ) → Book → List Item → Reading → ItemStop → Type 0
+StopsReading budget b items r (stop.Text f) = ⊥
+StopsReading budget b items r stop.ManyFlags = ⊥
+StopsReading budget b items r stop.High = IsSmallReading r → ⊥
+StopsReading budget b items r (stop.Refused f) = IsSmallReading r × IsAnswer (judging b r) budget (Fails (refusal_of items f))
+StopsReading budget b items r (stop.Budget want.Steps) =
     IsSmallReading r × ((answer : Answer Refusal (Unit {0})) (known : Pairs) (n : ℕ) → judging b r [] answer known n → budget < n)
-StopsReading budget b items at r (stop.Budget want.Height) = IsSmallReading r × IsAnswer (judging b r) budget High
-StopsReading budget b items at r (stop.Budget want.Nesting) = IsSmallReading r × IsAnswer (judging b r) budget Nested
-StopsReading budget b items at r stop.Memory = ⊤
+StopsReading budget b items r (stop.Budget want.Height) = IsSmallReading r × IsAnswer (judging b r) budget High
+StopsReading budget b items r (stop.Budget want.Nesting) = IsSmallReading r × IsAnswer (judging b r) budget Nested
+StopsReading budget b items r stop.Memory = ⊤
 
 -- an item that was read is accepted at this cost, and added
 pub record IsJudged (budget : ℕ) (old new : Standing) (before after : State) (name : List ℕ) (r : Reading) (n : ℕ) : Type 0 where
@@ -129,6 +128,6 @@ pub record IsJudged (budget : ℕ) (old new : Standing) (before after : State) (
   pub becomes : book_of new after ≡ with_item name r (book_of old before)
   pub notes : (known new).notes ≡ (known old).notes ++ note_of name r (book_of old before) ∷ []
 
-abbrev pub JudgesReading : (budget : ℕ) → (old new : Standing) → (before after : State) → (name : List ℕ) → Span → Reading → Result ℕ ItemStop → Type 0
-JudgesReading budget old new before after name at r (Ok n) = IsJudged budget old new before after name r n
-JudgesReading budget old new before after name at r (Err s) = StopsReading budget (book_of old before) new.items at r s
+abbrev pub JudgesReading : (budget : ℕ) → (old new : Standing) → (before after : State) → (name : List ℕ) → Reading → Result ℕ ItemStop → Type 0
+JudgesReading budget old new before after name r (Ok n) = IsJudged budget old new before after name r n
+JudgesReading budget old new before after name r (Err s) = StopsReading budget (book_of old before) new.items r s

@@ -2,7 +2,7 @@
 use Rattle.std.specs.Prelude.{◌≡◌, ◌<◌, ◌≤◌, ℕ, [], length, nat_lt, if◌then◌else◌, position, Option, Some, None, Result, Ok, Err}
 use Rattle.std.specs.Str.{bytes_eq}
 use Rattle.ld_terms.specs.Item.{One, IsSmall}
-use Rattle.ld_reduce.specs.Task.{Task, Answer, Gives, Fails, High, Nested, NotBuilt, Pairs}
+use Rattle.ld_reduce.specs.Task.{Task, Answer, Gives, Fails, High, Nested, Pairs}
 use Rattle.ld_infer.specs.Reading.{Refusal}
 use Rattle.ld_defrules.specs.Judged.{flag_judged, primitive_judged, line_judged}
 use Rattle.fb_base.specs.declared.places.Span.{Span}
@@ -73,13 +73,12 @@ judging b (Flag type) = flag_judged b.env b.context type
 judging b (Prim type) = primitive_judged b.env b.context type
 judging b (Line body type) = line_judged b.env b.context body type
 
--- a form of judging that is not built is refused at the item's span
-abbrev pub by_answer : SurfaceItem → Answer Refusal (Unit {0}) → Verdict
-by_answer i (Gives x) = Accepted
-by_answer i (Fails r) = RuleRefused r
-by_answer i High = StopsHigh
-by_answer i Nested = StopsNested
-by_answer i NotBuilt = TextRefused (fault_at what.NotBuilt i.span)
+-- the verdict by what the judging answers
+abbrev pub by_answer : Answer Refusal (Unit {0}) → Verdict
+by_answer (Gives x) = Accepted
+by_answer (Fails r) = RuleRefused r
+by_answer High = StopsHigh
+by_answer Nested = StopsNested
 
 -- The verdict on an item, with the steps of its judging: its bars, its name, the names of its terms, their height, its typing.
 -- No pair of trees is known where the judging begins.
@@ -87,7 +86,7 @@ pub data Verdicts (b : Book) (i : SurfaceItem) : Verdict → ℕ → Type 0 wher
   unread : {v : Verdict} → read_item b i ≡ Err v → Verdicts b i v 0
   high : {r : Reading} → read_item b i ≡ Ok r → ¬ IsSmallReading r → Verdicts b i TooHigh 0
   judged : {r : Reading} (answer : Answer Refusal (Unit {0})) (known : Pairs) {n : ℕ} → read_item b i ≡ Ok r → IsSmallReading r →
-      judging (closed i.bars b) r [] answer known n → Verdicts b i (by_answer i answer) n
+      judging (closed i.bars b) r [] answer known n → Verdicts b i (by_answer answer) n
 
 -- the verdict on an item, which has no other
 pub record HasVerdict (b : Book) (i : SurfaceItem) (v : Verdict) (n : ℕ) : Type 0 where

@@ -218,7 +218,7 @@ fn judge_terms(
     requires marks { length scope.old.marks ≡ length theory.old.entries }
     requires step { IsInStep theory.old scope.old }
     requires room { HasRoom theory.old scope.old }
-    ensures answer { JudgesReading budget theory.old theory.new scope.old scope.new name.now at (reading_by scope.old (names_of (env theory.old)) terms.entry) result }
+    ensures answer { JudgesReading budget theory.old theory.new scope.old scope.new name.now (reading_by scope.old (names_of (env theory.old)) terms.entry) result }
     ensures goes { Goes theory.old theory.new }
     ensures step { OnOk result (IsInStep theory.new scope.new) }
 {
@@ -245,15 +245,15 @@ fn judge_flag(
     requires marks { length scope.old.marks ≡ length theory.old.entries }
     requires step { IsInStep theory.old scope.old }
     requires room { HasRoom theory.old scope.old }
-    ensures answer { JudgesReading budget theory.old theory.new scope.old scope.new name.now at (book.Flag (read (tree_of scope.old (names_of (env theory.old)) (view of.entry)))) result }
+    ensures answer { JudgesReading budget theory.old theory.new scope.old scope.new name.now (book.Flag (read (tree_of scope.old (names_of (env theory.old)) (view of.entry)))) result }
     ensures goes { Goes theory.old theory.new }
     ensures step { OnOk result (IsInStep theory.new scope.new) }
 {
     let of = build(theory, scope, of)?;
-    let mut job = Job::new(budget);
+    let mut job = Job::new(alloc, budget);
     match open_flag(alloc, theory, of, &mut job) {
         Ok(()) => match scope.enter(name) {
-            Ok(()) => Ok(job.spent()),
+            Ok(()) => Ok(job.budget.spent()),
             Err(_) => Err(ItemStop::Memory),
         },
         Err(fault) => Err(stop_of(fault, at)),
@@ -276,15 +276,15 @@ fn judge_primitive(
     requires marks { length scope.old.marks ≡ length theory.old.entries }
     requires step { IsInStep theory.old scope.old }
     requires room { HasRoom theory.old scope.old }
-    ensures answer { JudgesReading budget theory.old theory.new scope.old scope.new name.now at (book.Prim (read (tree_of scope.old (names_of (env theory.old)) (view of.entry)))) result }
+    ensures answer { JudgesReading budget theory.old theory.new scope.old scope.new name.now (book.Prim (read (tree_of scope.old (names_of (env theory.old)) (view of.entry)))) result }
     ensures goes { Goes theory.old theory.new }
     ensures step { OnOk result (IsInStep theory.new scope.new) }
 {
     let of = build(theory, scope, of)?;
-    let mut job = Job::new(budget);
+    let mut job = Job::new(alloc, budget);
     match primitive(alloc, theory, name, of, &mut job) {
         Ok(_) => match scope.note() {
-            Ok(()) => Ok(job.spent()),
+            Ok(()) => Ok(job.budget.spent()),
             Err(_) => Err(ItemStop::Memory),
         },
         Err(fault) => Err(stop_of(fault, at)),
@@ -309,17 +309,17 @@ fn judge_line(
     requires marks { length scope.old.marks ≡ length theory.old.entries }
     requires step { IsInStep theory.old scope.old }
     requires room { HasRoom theory.old scope.old }
-    ensures answer { JudgesReading budget theory.old theory.new scope.old scope.new name.now at
+    ensures answer { JudgesReading budget theory.old theory.new scope.old scope.new name.now
         (book.Line (read (tree_of scope.old (names_of (env theory.old)) (view body.entry))) (read (tree_of scope.old (names_of (env theory.old)) (view of.entry)))) result }
     ensures goes { Goes theory.old theory.new }
     ensures step { OnOk result (IsInStep theory.new scope.new) }
 {
     let of = build(theory, scope, of)?;
     let body = build(theory, scope, body)?;
-    let mut job = Job::new(budget);
+    let mut job = Job::new(alloc, budget);
     match define(alloc, theory, name, body, of, &mut job) {
         Ok(_) => match scope.note() {
-            Ok(()) => Ok(job.spent()),
+            Ok(()) => Ok(job.budget.spent()),
             Err(_) => Err(ItemStop::Memory),
         },
         Err(fault) => Err(stop_of(fault, at)),
@@ -336,7 +336,6 @@ fn stop_of(fault: ItemFault, at: Span) -> ItemStop
         ItemFault::Stop(Stop::High) => ItemStop::Budget(Want::Height),
         ItemFault::Stop(Stop::Nested) => ItemStop::Budget(Want::Nesting),
         ItemFault::Stop(Stop::Memory) => ItemStop::Memory,
-        ItemFault::NotBuilt => ItemStop::Text(fault_at(TextWhat::NotBuilt, at)),
         ItemFault::NameTaken => ItemStop::Text(fault_at(TextWhat::NameTaken, at)),
     }
 }

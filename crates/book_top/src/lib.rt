@@ -3,8 +3,11 @@
 
 mod build;
 mod check;
+#[cfg(test)]
+mod conversion_tests;
 mod fetch;
 mod item;
+pub mod laws;
 #[cfg(test)]
 mod name_tests;
 mod names;

@@ -134,11 +134,6 @@ fn refused_names(rt: HostRuntime) -> Result<(), Fail> {
             "[x : *]\n| c := x : *\n| d := c(y) : *",
             "3:10: text: unknown name y\n",
         ),
-        // Comparison isn't built yet.
-        (
-            "[A : *]\n| c := A : *\nd := c(*) : *",
-            "3:1: text: not built\n",
-        ),
     ] {
         check(&rt, rt.alloc(), book.as_bytes(), 1, report)?;
     }
@@ -154,6 +149,11 @@ fn refused_arguments(rt: HostRuntime) -> Result<(), Fail> {
         ),
         (
             "[A : *]\n| c := A : *\nd := c(box) : *",
+            "3:1: rule inst 1 at body.1\n",
+        ),
+        // The type of `*` is `box`, which isn't the parameter's.
+        (
+            "[A : *]\n| c := A : *\nd := c(*) : *",
             "3:1: rule inst 1 at body.1\n",
         ),
         (

@@ -146,11 +146,6 @@ fn refused_texts(rt: HostRuntime) -> Result<(), Fail> {
         ("[x : *]\ny := x : *", "2:6: text: unknown name x\n"),
         // The name is looked at before the names of the terms.
         ("A := prim : *\nA := y z : *", "2:1: text: name taken A\n"),
-        // Not built yet: a comparison of unequal types.
-        (
-            "P := prim : *\nQ := prim : *\np := prim : P\nq := prim : Q -> Q\nr := q p : Q",
-            "5:1: text: not built\n",
-        ),
     ] {
         check(&rt, rt.alloc(), book.as_bytes(), 1, report)?;
     }

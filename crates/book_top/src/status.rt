@@ -43,7 +43,7 @@ pub enum TextWhat {
     NameTaken,
     /// The item has more bars than flags are open.
     DepthTooGreat { bars: u32, flags: u32 },
-    /// A body of a line, or a judging, that this version does not do yet. The span is the item's.
+    /// A body of a line that this version does not do yet. The span is the item's.
     NotBuilt,
 }
 

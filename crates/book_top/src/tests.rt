@@ -91,8 +91,8 @@ fn refused_items(rt: HostRuntime) -> Result<(), Fail> {
         ("x := y : *", 1, "1:6: text: unknown name y\n", header),
         (
             "f := fun x : * . x : *",
-            1,
-            "1:1: text: not built\n",
+            3,
+            "1:1: rule def 2 at body\n",
             header,
         ),
         ("| A := prim : *", 1, "1:3: text: depth 1 over 0\n", header),
@@ -130,16 +130,6 @@ fn refused_items(rt: HostRuntime) -> Result<(), Fail> {
         let desk = check(&rt, rt.alloc(), book.as_bytes(), code, report)?;
         assert!(rt; desk.file("out") == Some(left), "{book}");
     }
-    // A comparison of unequal types is not built.
-    let book = "A := prim : *\na := prim : A\nd := A : *\nb := a : d";
-    let desk = check(
-        &rt,
-        rt.alloc(),
-        book.as_bytes(),
-        1,
-        "4:1: text: not built\n",
-    )?;
-    assert!(rt; desk.file("out").is_some_and(|file| file.starts_with(first)));
     Ok(())
 }
 
@@ -183,7 +173,12 @@ fn places_of_refusals(rt: HostRuntime) -> Result<(), Fail> {
         ("x := y -> z : *", TextWhat::Unknown, 5, 6),
         ("A := prim : *\nx := y : A", TextWhat::Unknown, 19, 20),
         ("A := prim : *\nA := y : z", TextWhat::NameTaken, 14, 15),
-        ("A := prim : *\nx := A : A", TextWhat::NotBuilt, 14, 24),
+        (
+            "A := prim : *\nx := by same * : box",
+            TextWhat::NotBuilt,
+            14,
+            34,
+        ),
         // The fault of a name is at the name alone.
         ("x := y(*) : *", TextWhat::Unknown, 5, 6),
         ("[xy : *]\n| z := xy(*) : *", TextWhat::NotAConstant, 16, 18),
@@ -253,11 +248,16 @@ fn premises_that_fail(rt: HostRuntime) -> Result<(), Fail> {
     compare_refusal(&rt, rt.alloc(), "P := prim : box", no_type, PathStep::Of)?;
     let no_type = (1, RuleName::Def, 2, WhyName::NoType);
     compare_refusal(&rt, rt.alloc(), "P := box : *", no_type, PathStep::Body)?;
+    // Another type than the word `box`, a stated type that isn't the same, and an argument of another type.
     let not_same = (2, RuleName::Def, 2, WhyName::NotSame);
+    for book in ["A := prim : *\nx := A : box", "A := prim : *\nx := A : A"] {
+        compare_refusal(&rt, rt.alloc(), book, not_same, PathStep::Body)?;
+    }
+    let not_same = (3, RuleName::Appl, 2, WhyName::NotSame);
     compare_refusal(
         &rt,
         rt.alloc(),
-        "A := prim : *\nx := A : box",
+        "A := prim : *\nf := prim : A -> A\nx := f A : A",
         not_same,
         PathStep::Body,
     )

@@ -5,6 +5,7 @@ ghost use Rattle.book_top.specs.Words.{texts, IsCheck, IsVerify, IsNoCommand};
 ghost use Rattle.book_top.specs.Desk.{OnlySays};
 ghost use Rattle.book_top.specs.Top.{IsFetched, AnswersNoCommand, Checks, Outcome, IsAbsent, IsSaid, IsAnswerOf, IsRule, why_of};
 ghost use Rattle.book_top.specs.Said.{SaysOf};
+ghost use Rattle.book_top.specs.Complete.{IsUndisturbed, CanBeDone, IsDoneOrMemory};
 ghost use Rattle.book_top.specs.Checked.{AnswersFault, AnswersStop};
 ghost use Rattle.ld_terms.specs.Item.{Item};
 ghost use Rattle.ld_infer.specs.Infers.{refusal_of, reason_of};
@@ -44,6 +45,7 @@ pub fn run<D: Desk>(alloc: Global, words: &[&str], desk: &mut D) -> Status
     ensures said { IsTrue (D.seen desk.old).tells_said → SaysOf (D.seen desk.old) (D.seen desk.new) (texts words.now) result }
     ensures desk { result ≡ Status.Desk → Rose (D.seen desk.old).faults (D.seen desk.new).faults }
     ensures absent { IsTrue (D.seen desk.old).tells_files → IsTrue (D.seen desk.old).sound → result ≡ Status.Desk → IsAbsent (D.seen desk.old).files (texts words.now) }
+    ensures complete { IsTrue (D.seen desk.old).tells_files → IsUndisturbed (D.seen desk.old) (D.seen desk.new) → CanBeDone (D.seen desk.old).files (texts words.now) → IsDoneOrMemory result }
 {
     match read_words(alloc, words) {
         Ok(Some(Command::Check(asked))) => {

@@ -2,7 +2,8 @@ use Rattle.std.proofs.Common.{Err, sym, ap, subst, ◌∙◌}
 use Rattle.ld_terms.specs.Tree.{Tree, Trees}
 use Rattle.ld_terms.specs.Entry.{Env}
 use Rattle.ld_terms.specs.Bank.{tree_at}
-use Rattle.ld_infer.specs.Standing.{env, AddsFlag}
+use Rattle.ld_infer.specs.Standing.{env, AddsFlag, account}
+use Rattle.ld_infer.proofs.Pairs.{pairs_none, account_none}
 use Rattle.ld_defrules.specs.Judged.{Judges, flag_judged}
 use Rattle.fb_parse.specs.View.{view}
 use Rattle.fb_scope.specs.State.{entered}
@@ -26,23 +27,26 @@ returns-in-Ok-enter-clause-answer c =
     let mid = c.build.new.theory in
     let t = read (tree_of c.args.scope.now (names_of (env old)) (view c.args.of)) in
     let built = c.in_ok-of.ensures.built in
-    flag_judged_so c.args.budget old mid c.open_flag.new.theory c.args.scope.now c.enter.new.self c.args.name.now t (tree_at mid.items c.in_ok-of.of) c.new-job.result c.open_flag.new.job c.spent.result
-    c.build.ensures.continues (stands_tree mid.items c.in_ok-of.of t built.0) built.1 c.new-job.ensures c.spent.ensures
+    flag_judged_so c.args.budget old mid c.open_flag.new.theory c.args.scope.now c.enter.new.self c.args.name.now t (tree_at mid.items c.in_ok-of.of) (account mid c.new-job.result) (account c.open_flag.new.theory c.open_flag.new.job) c.spent.result
+    c.build.ensures.continues (stands_tree mid.items c.in_ok-of.of t built.0) built.1 (account_none mid c.new-job.result c.args.budget c.new-job.ensures.budget c.new-job.ensures.known) c.spent.ensures
     (c.in-Ok-enter.ensures.ok ∙ ap (entered c.args.name.now) c.in_ok-of.ensures.same) c.in-Ok.ensures.judges
 
-pub returns-in-Err-clause-answer : goal.returns-in-Err-clause-answer
-returns-in-Err-clause-answer c =
+pub returns-clause-answer : goal.returns-clause-answer
+returns-clause-answer c =
     let old = c.args.theory.now in
     let mid = c.build.new.theory in
     let t = read (tree_of c.args.scope.now (names_of (env old)) (view c.args.of)) in
     let u = tree_at mid.items c.in_ok-of.of in
     let items = c.open_flag.new.theory.items in
     let built = c.in_ok-of.ensures.built in
-    let before = c.new-job.result in
-    let after = c.open_flag.new.job in
+    let before = account mid c.new-job.result in
+    let after = account c.open_flag.new.theory c.open_flag.new.job in
     let Adds = AddsFlag mid c.open_flag.new.theory u in
     let P : Env → Trees → Tree → Type 0 = λ e ctx x. Judges items (flag_judged e ctx x) ⊥ Adds before after {X = Unit {0}} (Err c.in-Err.fault) in
-    let S : ItemStop → Type 0 = λ z. StopsReading c.args.budget (book_of old c.args.scope.now) items c.args.at (Flag t) z in
+    let S : ItemStop → Type 0 = λ z. StopsReading c.args.budget (book_of old c.args.scope.now) items (Flag t) z in
     subst S (sym c.stop_of.ensures)
-    (judging_stops (Unit {0}) ⊥ Adds c.args.budget (book_of old c.args.scope.now) items c.args.at (Flag t) before after c.in-Err.fault built.1 c.new-job.ensures (λ h. h)
+    (judging_stops (Unit {0}) ⊥ Adds c.args.budget (book_of old c.args.scope.now) items c.args.at (Flag t) before after c.in-Err.fault built.1 (account_none mid c.new-job.result c.args.budget c.new-job.ensures.budget c.new-job.ensures.known) (λ h. h)
     (same_task P (env mid) (env old) mid.context old.context u t c.build.ensures.continues.adds.env c.build.ensures.continues.context (stands_tree mid.items c.in_ok-of.of t built.0) c.in-Err.ensures.judges))
+
+pub open_flag-requires-clause-pairs : goal.open_flag-requires-clause-pairs
+open_flag-requires-clause-pairs c = pairs_none c.build.new.theory c.new-job.result.known c.new-job.ensures.known

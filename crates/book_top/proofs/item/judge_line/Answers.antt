@@ -5,7 +5,8 @@ use Rattle.ld_terms.specs.Bank.{tree_at}
 use Rattle.ld_env.specs.Named.{names_of as names_in}
 use Rattle.ld_infer.specs.Account.{Comes}
 use Rattle.ld_reduce.specs.Task.{Gives}
-use Rattle.ld_infer.specs.Standing.{env, AddsEntry}
+use Rattle.ld_infer.specs.Standing.{env, AddsEntry, account}
+use Rattle.ld_infer.proofs.Pairs.{pairs_none, account_none}
 use Rattle.ld_defrules.specs.Judged.{Judges, line_judged, line_of}
 use Rattle.fb_parse.specs.View.{view}
 use Rattle.fb_scope.specs.State.{noted}
@@ -48,11 +49,11 @@ returns-in-Ok-note-clause-answer c =
     let on = continues_on old first mid c.build.ensures.continues c.build-2.ensures.continues in
     let body_is = stands_tree mid.items c.in_ok-body.body m built.0 in
     let is = stands_tree mid.items c.in_ok-of.of t (stands_later first mid c.in_ok-of.of t c.build-2.ensures.continues of_built.0) in
-    let before = c.new-job.result in
-    let after = c.define.new.job in
+    let before = account mid c.new-job.result in
+    let after = account c.define.new.theory c.define.new.job in
     let P : Env → Trees → Tree → Tree → Type 0 = λ e ctx y x. Comes (line_judged e ctx y x) (Gives tt) before after in
     let so = entry_judged_so c.args.budget old mid c.define.new.theory s c.note.new.self name (Line m t) (line_of name old.context m t) (line_of name mid.context m' t') after c.spent.result before
-    on (λ i. line_of name (on.context i) (body_is i) (is i)) (of_built.1, built.1) c.new-job.ensures c.spent.ensures
+    on (λ i. line_of name (on.context i) (body_is i) (is i)) (of_built.1, built.1) (account_none mid c.new-job.result c.args.budget c.new-job.ensures.budget c.new-job.ensures.known) c.spent.ensures
     (c.in-Ok-note.ensures.ok ∙ ap noted (c.in_ok-body.ensures.same ∙ c.in_ok-of.ensures.same))
     (same_line P (env mid) (env old) mid.context old.context m' m t' t on.adds.env on.context body_is is c.in-Ok.ensures.judges.0) c.in-Ok.ensures.judges.1 in
     record { small = (of_built.1, built.1); costs = so.2; becomes = so.0; notes = so.1 }
@@ -67,14 +68,11 @@ returns-in-Ok-note-clause-step c =
 pub returns-in-Ok-note-clause-goes : goal.returns-in-Ok-note-clause-goes
 returns-in-Ok-note-clause-goes c = goes_on _ _ _ (continues_on _ _ _ c.build.ensures.continues c.build-2.ensures.continues) c.define.ensures.goes
 
-pub returns-in-Err-note-clause-goes : goal.returns-in-Err-note-clause-goes
-returns-in-Err-note-clause-goes c = goes_on _ _ _ (continues_on _ _ _ c.build.ensures.continues c.build-2.ensures.continues) c.define.ensures.goes
+pub returns-clause-goes : goal.returns-clause-goes
+returns-clause-goes c = goes_on _ _ _ (continues_on _ _ _ c.build.ensures.continues c.build-2.ensures.continues) c.define.ensures.goes
 
-pub returns-in-Err-clause-goes : goal.returns-in-Err-clause-goes
-returns-in-Err-clause-goes c = goes_on _ _ _ (continues_on _ _ _ c.build.ensures.continues c.build-2.ensures.continues) c.define.ensures.goes
-
-pub returns-in-Err-clause-answer : goal.returns-in-Err-clause-answer
-returns-in-Err-clause-answer c =
+pub returns-clause-answer : goal.returns-clause-answer
+returns-clause-answer c =
     let old = c.args.theory.now in
     let s = c.args.scope.now in
     let first = c.build.new.theory in
@@ -89,13 +87,16 @@ returns-in-Err-clause-answer c =
     let body_is = stands_tree mid.items c.in_ok-body.body m built.0 in
     let is = stands_tree mid.items c.in_ok-of.of t (stands_later first mid c.in_ok-of.of t c.build-2.ensures.continues of_built.0) in
     let items = c.define.new.theory.items in
-    let before = c.new-job.result in
-    let after = c.define.new.job in
+    let before = account mid c.new-job.result in
+    let after = account c.define.new.theory c.define.new.job in
     let Adds = AddsEntry mid c.define.new.theory (line_of c.args.name.now mid.context m' t') in
     let Taken = Contains (names_in mid.entries) c.args.name.now in
     let free : Taken → ⊥ = λ h. c.requires.free (subst (λ es. Contains (names_in es) c.args.name.now) on.entries h) in
     let P : Env → Trees → Tree → Tree → Type 0 = λ e ctx y x. Judges items (line_judged e ctx y x) Taken Adds before after {X = ℕ} (Err c.in-Err.fault) in
-    let S : ItemStop → Type 0 = λ z. StopsReading c.args.budget (book_of old s) items c.args.at (Line m t) z in
+    let S : ItemStop → Type 0 = λ z. StopsReading c.args.budget (book_of old s) items (Line m t) z in
     subst S (sym c.stop_of.ensures)
-    (judging_stops ℕ Taken Adds c.args.budget (book_of old s) items c.args.at (Line m t) before after c.in-Err.fault (of_built.1, built.1) c.new-job.ensures free
+    (judging_stops ℕ Taken Adds c.args.budget (book_of old s) items c.args.at (Line m t) before after c.in-Err.fault (of_built.1, built.1) (account_none mid c.new-job.result c.args.budget c.new-job.ensures.budget c.new-job.ensures.known) free
     (same_line P (env mid) (env old) mid.context old.context m' m t' t on.adds.env on.context body_is is c.in-Err.ensures.judges))
+
+pub define-requires-clause-pairs : goal.define-requires-clause-pairs
+define-requires-clause-pairs c = pairs_none c.build-2.new.theory c.new-job.result.known c.new-job.ensures.known

@@ -5,7 +5,8 @@ use Rattle.ld_terms.specs.Bank.{tree_at}
 use Rattle.ld_env.specs.Named.{names_of as names_in}
 use Rattle.ld_infer.specs.Account.{Comes}
 use Rattle.ld_reduce.specs.Task.{Gives}
-use Rattle.ld_infer.specs.Standing.{env, AddsEntry}
+use Rattle.ld_infer.specs.Standing.{env, AddsEntry, account}
+use Rattle.ld_infer.proofs.Pairs.{pairs_none, account_none}
 use Rattle.ld_defrules.specs.Judged.{Judges, primitive_judged, primitive_of}
 use Rattle.fb_parse.specs.View.{view}
 use Rattle.fb_scope.specs.State.{noted}
@@ -33,11 +34,11 @@ returns-in-Ok-note-clause-answer c =
     let built = c.in_ok-of.ensures.built in
     let on = c.build.ensures.continues in
     let is = stands_tree mid.items c.in_ok-of.of t built.0 in
-    let before = c.new-job.result in
-    let after = c.primitive.new.job in
+    let before = account mid c.new-job.result in
+    let after = account c.primitive.new.theory c.primitive.new.job in
     let P : Env → Trees → Tree → Type 0 = λ e ctx x. Comes (primitive_judged e ctx x) (Gives tt) before after in
     let so = entry_judged_so c.args.budget old mid c.primitive.new.theory c.args.scope.now c.note.new.self name (Prim t) (primitive_of name old.context t) (primitive_of name mid.context u) after c.spent.result before
-    on (λ i. primitive_of name (on.context i) (is i)) built.1 c.new-job.ensures c.spent.ensures (c.in-Ok-note.ensures.ok ∙ ap noted c.in_ok-of.ensures.same)
+    on (λ i. primitive_of name (on.context i) (is i)) built.1 (account_none mid c.new-job.result c.args.budget c.new-job.ensures.budget c.new-job.ensures.known) c.spent.ensures (c.in-Ok-note.ensures.ok ∙ ap noted c.in_ok-of.ensures.same)
     (same_task P (env mid) (env old) mid.context old.context u t on.adds.env on.context is c.in-Ok.ensures.judges.0) c.in-Ok.ensures.judges.1 in
     record { small = built.1; costs = so.2; becomes = so.0; notes = so.1 }
 
@@ -50,27 +51,27 @@ returns-in-Ok-note-clause-step c =
 pub returns-in-Ok-note-clause-goes : goal.returns-in-Ok-note-clause-goes
 returns-in-Ok-note-clause-goes c = goes_on _ _ _ c.build.ensures.continues c.primitive.ensures.goes
 
-pub returns-in-Err-note-clause-goes : goal.returns-in-Err-note-clause-goes
-returns-in-Err-note-clause-goes c = goes_on _ _ _ c.build.ensures.continues c.primitive.ensures.goes
+pub returns-clause-goes : goal.returns-clause-goes
+returns-clause-goes c = goes_on _ _ _ c.build.ensures.continues c.primitive.ensures.goes
 
-pub returns-in-Err-clause-goes : goal.returns-in-Err-clause-goes
-returns-in-Err-clause-goes c = goes_on _ _ _ c.build.ensures.continues c.primitive.ensures.goes
-
-pub returns-in-Err-clause-answer : goal.returns-in-Err-clause-answer
-returns-in-Err-clause-answer c =
+pub returns-clause-answer : goal.returns-clause-answer
+returns-clause-answer c =
     let old = c.args.theory.now in
     let mid = c.build.new.theory in
     let t = read (tree_of c.args.scope.now (names_of (env old)) (view c.args.of)) in
     let u = tree_at mid.items c.in_ok-of.of in
     let items = c.primitive.new.theory.items in
     let built = c.in_ok-of.ensures.built in
-    let before = c.new-job.result in
-    let after = c.primitive.new.job in
+    let before = account mid c.new-job.result in
+    let after = account c.primitive.new.theory c.primitive.new.job in
     let Adds = AddsEntry mid c.primitive.new.theory (primitive_of c.args.name.now mid.context u) in
     let Taken = Contains (names_in mid.entries) c.args.name.now in
     let free : Taken → ⊥ = λ h. c.requires.free (subst (λ es. Contains (names_in es) c.args.name.now) c.build.ensures.continues.entries h) in
     let P : Env → Trees → Tree → Type 0 = λ e ctx x. Judges items (primitive_judged e ctx x) Taken Adds before after {X = ℕ} (Err c.in-Err.fault) in
-    let S : ItemStop → Type 0 = λ z. StopsReading c.args.budget (book_of old c.args.scope.now) items c.args.at (Prim t) z in
+    let S : ItemStop → Type 0 = λ z. StopsReading c.args.budget (book_of old c.args.scope.now) items (Prim t) z in
     subst S (sym c.stop_of.ensures)
-    (judging_stops ℕ Taken Adds c.args.budget (book_of old c.args.scope.now) items c.args.at (Prim t) before after c.in-Err.fault built.1 c.new-job.ensures free
+    (judging_stops ℕ Taken Adds c.args.budget (book_of old c.args.scope.now) items c.args.at (Prim t) before after c.in-Err.fault built.1 (account_none mid c.new-job.result c.args.budget c.new-job.ensures.budget c.new-job.ensures.known) free
     (same_task P (env mid) (env old) mid.context old.context u t c.build.ensures.continues.adds.env c.build.ensures.continues.context (stands_tree mid.items c.in_ok-of.of t built.0) c.in-Err.ensures.judges))
+
+pub primitive-requires-clause-pairs : goal.primitive-requires-clause-pairs
+primitive-requires-clause-pairs c = pairs_none c.build.new.theory c.new-job.result.known c.new-job.ensures.known

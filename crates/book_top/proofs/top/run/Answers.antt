@@ -1,4 +1,4 @@
-use Rattle.std.proofs.Common.{Err, refl, inl, ap, sym, subst, ◌∙◌, Bool, List, ℕ, IsTrue}
+use Rattle.std.proofs.Common.{Err, refl, inl, ap, sym, subst, ◌∙◌, Bool, List, ℕ, IsTrue, arith}
 use Rattle.fb_base.specs.Desk.{Seen}
 use Rattle.book_top.specs.declared.report.Subject.TheVariants as subject
 use Rattle.book_top.specs.declared.status.LimitFault.TheVariants as limit
@@ -8,6 +8,7 @@ use Rattle.book_top.specs.Top.{book_limit, IsFetched, Checks, Outcome, IsAbsent}
 use Rattle.book_top.proofs.CommandLines.{not_both}
 use Rattle.book_top.proofs.Fetching.{unfetched_checks, unfetched_placeless}
 use Rattle.book_top.proofs.Runs.{said_checks, said_verifies, no_command_answers, same_out, says_of, says_placeless, about_book, about_derivation, about_nothing, asks_check, asks_verify, asks_nothing, unread_outcome, unread_says}
+use Rattle.book_top.proofs.Complete.{is_asked, completes, rises_by}
 use Rattle.book_top.proofs.top.run.Goals as goal
 
 pub returns-in-Ok-clause-outcome : goal.returns-in-Ok-clause-outcome
@@ -110,3 +111,34 @@ returns-in-Ok-Some-Verify-clause-absent g c = λ told sound is.
     let S : Seen → Type 0 = λ s. IsTrue s.sound in
     let due = c.say-in-Ok-Some-Verify.ensures.sound is (subst T (sym c.verify-status.ensures.same) told) (subst S (sym c.verify-status.ensures.same) sound) in
     IsAbsent.derivation _ (asks_verify _ c.in-Ok-Some-Verify.ensures.asked _ c.in-Ok-Some-Verify.deriv c.in-Ok-Some-Verify.field-0-is c.in-Ok-Some-Verify.field-0-0-is) (c.verify-status.ensures.absent due told sound)
+
+pub returns-in-Ok-clause-complete : goal.returns-in-Ok-clause-complete
+returns-in-Ok-clause-complete g c =
+    let T : Bool → Type 0 = λ b. IsTrue b in
+    let files_told : Seen → Type 0 = λ s. IsTrue s.tells_files in
+    let is_sound : Seen → Type 0 = λ s. IsTrue s.sound in
+    completes (g.D.Desk.seen c.args.desk.now) (g.D.Desk.seen c.say.new.desk) _ c.say.result (returns-in-Ok-clause-outcome g c)
+    (rises_by _ (g.D.Desk.seen c.fetch.new.desk).faults (g.D.Desk.seen c.check-status.new.desk).faults _ c.check-status.result c.say.result
+    c.fetch.ensures.never_falls c.check-status.ensures.never_falls c.say.ensures.never_falls c.check-status.ensures.desk c.say.ensures.desk)
+    (λ told sound is.
+    let told_then = subst files_told (sym c.fetch.ensures.same) told in
+    let sound_then = subst is_sound (sym c.fetch.ensures.same) sound in
+    absurd (c.check-status.ensures.never
+    (c.say.ensures.sound is (subst T (sym c.check-status.ensures.tells_files) told_then) (subst T (sym c.check-status.ensures.sound_stays) sound_then)) told_then sound_then))
+
+pub returns-in-Err-fetch-clause-complete : goal.returns-in-Err-fetch-clause-complete
+returns-in-Err-fetch-clause-complete g c =
+    completes (g.D.Desk.seen c.args.desk.now) (g.D.Desk.seen c.say-in-Err-fetch.new.desk) _ c.say-in-Err-fetch.result (returns-in-Err-fetch-clause-outcome g c)
+    (rises_by _ (g.D.Desk.seen c.args.desk.now).faults (g.D.Desk.seen c.fetch.new.desk).faults _ c.in-Err-fetch.status c.say-in-Err-fetch.result
+    (omega arith) c.fetch.ensures.never_falls c.say-in-Err-fetch.ensures.never_falls (λ due. c.in-Err-fetch.ensures.desk (ap Err due)) c.say-in-Err-fetch.ensures.desk)
+    (returns-in-Err-fetch-clause-absent g c)
+
+pub returns-in-Ok-Some-Verify-clause-complete : goal.returns-in-Ok-Some-Verify-clause-complete
+returns-in-Ok-Some-Verify-clause-complete g c =
+    completes (g.D.Desk.seen c.args.desk.now) (g.D.Desk.seen c.say-in-Ok-Some-Verify.new.desk) _ c.say-in-Ok-Some-Verify.result (returns-in-Ok-Some-Verify-clause-outcome g c)
+    (rises_by _ (g.D.Desk.seen c.args.desk.now).faults (g.D.Desk.seen c.verify-status.new.desk).faults _ c.verify-status.result c.say-in-Ok-Some-Verify.result
+    (omega arith) c.verify-status.ensures.never_falls c.say-in-Ok-Some-Verify.ensures.never_falls c.verify-status.ensures.desk c.say-in-Ok-Some-Verify.ensures.desk)
+    (returns-in-Ok-Some-Verify-clause-absent g c)
+
+pub returns-in-Ok-None-clause-complete : goal.returns-in-Ok-None-clause-complete
+returns-in-Ok-None-clause-complete g c = λ told undisturbed possible. absurd (is_asked possible (asks_nothing _ c.in-Ok-None.ensures.asked c.in-Ok-None.field-0-is))
