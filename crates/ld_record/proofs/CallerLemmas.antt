@@ -7,6 +7,7 @@ use Rattle.ld_terms.specs.declared.bank.TermId.{TermId}
 use Rattle.ld_terms.specs.Derivable.{◌⨾◌⊢◌∶◌}
 use Rattle.ld_terms.specs.Tree.{Tree, Trees, Nil}
 use Rattle.ld_terms.specs.Entry.{Defined}
+use Rattle.ld_terms.specs.Step.{Converts}
 use Rattle.ld_terms.specs.Known.{Known, Equality, Judgement, nothing, context_at, bound_by}
 use Rattle.ld_terms.specs.Named.{IsNamed}
 use Rattle.ld_record.specs.declared.record.JudgeId.{JudgeId}
@@ -17,12 +18,12 @@ use Rattle.ld_record.specs.declared.record.Judge.{Judge}
 use Rattle.ld_record.specs.declared.record.Step.{Step}
 use Rattle.ld_record.specs.declared.record.Kept.{Kept}
 use Rattle.ld_record.specs.Follows.{entry_at, Follows}
-use Rattle.ld_record.specs.Equal.{eq_rule_of, FollowsEqual}
+use Rattle.ld_record.specs.Equal.{eq_rule_of, HasSides, FollowsEqual}
 use Rattle.ld_record.specs.Kept.{judgement_of, equality_of, known_of, FitsEqual, FitsNode, IsSound}
 use Rattle.ld_record.specs.Growth.{Knows, KnowsContext, KnowsEquality}
 use Rattle.ld_record.specs.Laws.{IsDerivableIn, IsNamedIn}
 use Rattle.ld_record.proofs.Growing.{grows_after}
-use Rattle.ld_record.proofs.Derived.{kept_nodes_are_derivable}
+use Rattle.ld_record.proofs.Derived.{kept_nodes_are_derivable, kept_over_all, kept_sides_convert}
 use Rattle.ld_record.proofs.Named.{AreSidesNamed, all_named, none_named, kept_terms_are_named}
 
 -- a judgement that is known by its number is derivable
@@ -32,6 +33,16 @@ known_derivable items kept j s sound knows = subst (IsDerivableIn (known_of item
 pub derivable : (items : List Item) (kept : List Kept) (j : JudgeId) (s : Judgement) → IsSound items kept → Knows (known_of items kept) j s
     → take s.entries (known_of items kept).env ⨾ s.context ⊢ s.term ∶ s.type
 derivable items kept j s sound knows = (known_derivable items kept j s sound knows).derivable
+
+-- and so it is over all entries, not only over those that it speaks of
+pub derivable_over_all : (items : List Item) (kept : List Kept) (j : JudgeId) (s : Judgement) → IsSound items kept → Knows (known_of items kept) j s
+    → (known_of items kept).env ⨾ s.context ⊢ s.term ∶ s.type
+derivable_over_all items kept j s sound knows =
+    let known = known_derivable items kept j s sound knows in kept_over_all items kept sound s.entries s.context s.term s.type known.within known.derivable
+
+-- the sides of an equality that is known by its number convert over all entries
+pub sides_convert : (items : List Item) (kept : List Kept) (e : EqId) (l r : Tree) → IsSound items kept → HasSides (known_of items kept) e l r → Converts (known_of items kept).env l r
+sides_convert items kept e l r sound sides = kept_sides_convert items kept sound e.0 l r (sides.left, sides.right)
 
 -- its term and type name entries that are there, with as many arguments as parameters
 pub named : (items : List Item) (kept : List Kept) (j : JudgeId) (s : Judgement) → IsSound items kept → Knows (known_of items kept) j s

@@ -1,25 +1,27 @@
 -- Each judgement is derivable: what follows from derivable judgements is derivable, and each record keeps what holds.
 -- A new entry lies behind all that is known, so that only conversions over all entries meet it.
-use Rattle.std.proofs.Common.{◌≡◌, ◌≤◌, ◌∙◌, ℕ, suc, List, [], ◌∷◌, ◌++◌, length, take, ap, sym, subst, arith}
+use Rattle.std.proofs.Common.{◌≡◌, ◌<◌, ◌≤◌, ◌+◌, ◌-◌, ◌∙◌, ℕ, zero, suc, List, [], ◌∷◌, ◌++◌, length, take, ap, sym, subst, arith}
 use Rattle.std.specs.Prelude.{◌⊎◌, true, false}
 use Rattle.std.proofs.Common.{inl, inr, refl}
 use mathlib.Core.Path.{subst₂}
 use Rattle.std.proofs.lemmas.List.{length_push, take_all, take-append-le}
+use Rattle.std.proofs.lemmas.Option.{slice_get-get_or}
 use Rattle.ld_terms.specs.Tree.{Tree, Star, Box, Pi, Trees, Nil, ◌▸◌}
 use Rattle.ld_terms.specs.Item.{Item}
 use Rattle.ld_terms.specs.Bank.{tree_at}
 use Rattle.ld_terms.specs.Entry as named
-use Rattle.ld_terms.specs.Entry.{Defined, Primitive, Env, EntryAt, HasBody, defined}
+use Rattle.ld_terms.specs.Entry.{Body, Defined, Primitive, Env, EntryAt, HasBody, defined}
 use Rattle.ld_terms.specs.Step.{Converts}
 use Rattle.ld_terms.specs.Derivable as d
 use Rattle.ld_terms.specs.Derivable.{IsSort, ◌⨾◌⊢◌∶◌, IsLegal}
 use Rattle.ld_terms.specs.Rule.{Rule}
-use Rattle.ld_terms.specs.Known.{Known, nothing, Equality, no_equality, Judgement, no_judgement, context_at, equality_at, judgement_at, line_entry, primitive_entry, FollowsBy, bound_by, IsFree, IsOverAll, MayEnd, with_context, with_equality, with_node, with_entry, with_flag}
+use Rattle.ld_terms.specs.Known.{Known, nothing, Equality, no_equality, Judgement, no_judgement, context_at, equality_at, judgement_at, line_entry, primitive_entry, FollowsBy, Equates, bound_by, IsFree, IsOverAll, MayEnd, with_context, with_equality, with_node, with_entry, with_flag}
 use Rattle.ld_terms.specs.Record.{Record, State, start, term_at, after, Meets, Stand, final}
 use Rattle.ld_record.specs.declared.record.Kept.{Kept}
 use Rattle.ld_record.specs.declared.record.Kept.TheVariants as kept
 use Rattle.ld_record.specs.Kept as said
 use Rattle.ld_record.specs.Kept.{judgement_of, equality_of, entry_by, with_kept, known_of, Fits, FitsEntry, AreSound, IsSound}
+use Rattle.ld_record.specs.Follows.{entry_at}
 use Rattle.ld_record.specs.Laws.{IsDerivableIn, NodesAreDerivable, EnvironmentIsLegal, KeptNodesAreDerivable}
 use Rattle.ld_record.proofs.Lists.{with_one_more}
 use Rattle.ld_record.proofs.Prefixes.{entry_within, take_next, entry_below, entry_or_last, converts_more}
@@ -233,3 +235,43 @@ all_kept_hold items known hold (k ∷ ks) h = all_kept_hold items (with_kept ite
 
 pub kept_nodes_are_derivable : KeptNodesAreDerivable
 kept_nodes_are_derivable items ks sound n live = (all_kept_hold items nothing nothing_holds ks sound.all).nodes n
+
+-- A judgement is led over one entry more, by the rule for an entry with a body or for a primitive.
+over_next : (Δ : Env) (e : named.Entry) (Γ : Trees) (t u : Tree) → EntryHolds Δ e → Δ ⨾ Γ ⊢ t ∶ u → Δ ++ e ∷ [] ⨾ Γ ⊢ t ∶ u
+over_next Δ e Γ t u holds j = by_body e.body refl
+  where
+    by_body : (b : Body) → e.body ≡ b → Δ ++ e ∷ [] ⨾ Γ ⊢ t ∶ u
+    by_body (Defined m) is =
+        let has : HasBody e.body m = subst (λ b. HasBody b m) (sym is) defined in
+        d.def {e = e} has holds.fresh j (holds.typed m has)
+    by_body Primitive is = let sort = holds.sorted is in d.def_prim {e = e} sort.1 is holds.fresh j sort.2
+
+-- what is derivable over the first entries is derivable over some more, and over all
+module _ (known : Known) (hold : AllHold known) where
+  over_more : (m n : ℕ) (Γ : Trees) (t u : Tree) → m + n ≤ length known.env → take m known.env ⨾ Γ ⊢ t ∶ u → take (m + n) known.env ⨾ Γ ⊢ t ∶ u
+  over_more m zero Γ t u within j = let same : m ≡ m + 0 = omega arith in subst (λ k. take k known.env ⨾ Γ ⊢ t ∶ u) same j
+  over_more m (suc n) Γ t u within j =
+      let below : m + n < length known.env = omega arith in
+      let next : suc (m + n) ≡ m + suc n = omega arith in
+      let e = entry_at known.env (m + n) in
+      let at : EntryAt known.env (m + n) e = slice_get-get_or known.env (m + n) _ below in
+      subst (λ k. take k known.env ⨾ Γ ⊢ t ∶ u) next
+      (subst (λ Δ. Δ ⨾ Γ ⊢ t ∶ u) (sym (take_next known.env (m + n) e at))
+      (over_next (take (m + n) known.env) e Γ t u (hold.entries (m + n) e at) (over_more m n Γ t u (omega arith) j)))
+
+  over_each : (m : ℕ) (Γ : Trees) (t u : Tree) → m ≤ length known.env → take m known.env ⨾ Γ ⊢ t ∶ u → known.env ⨾ Γ ⊢ t ∶ u
+  over_each m Γ t u within j =
+      let env = known.env in
+      subst (λ Δ. Δ ⨾ Γ ⊢ t ∶ u) (take_all (m + (length env - m)) env (omega arith)) (over_more m (length env - m) Γ t u (omega arith) j)
+
+pub kept_over_all : (items : List Item) (ks : List Kept) → IsSound items ks → (m : ℕ) (Γ : Trees) (t u : Tree) → m ≤ length (known_of items ks).env
+    → take m (known_of items ks).env ⨾ Γ ⊢ t ∶ u → (known_of items ks).env ⨾ Γ ⊢ t ∶ u
+kept_over_all items ks sound = over_each (known_of items ks) (all_kept_hold items nothing nothing_holds ks sound.all)
+
+-- the sides of a kept equality convert over all entries
+pub kept_sides_convert : (items : List Item) (ks : List Kept) → IsSound items ks → (e : ℕ) (l r : Tree) → Equates (known_of items ks) e l r → Converts (known_of items ks).env l r
+kept_sides_convert items ks sound e l r sides =
+    let known = known_of items ks in
+    let hold = all_kept_hold items nothing nothing_holds ks sound.all in
+    subst (λ Δ. Converts Δ l r) (take_all (length known.env) known.env (omega arith))
+    (equated known hold e (length known.env) l r sides (hold.bounds e) (omega arith))
