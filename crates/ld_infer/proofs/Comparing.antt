@@ -116,10 +116,10 @@ module _ (a b : Standing) (nest : ℕ) (q : Asked) (type : Tree) (wanted : TermI
       let E : Tree → Type 0 = λ y. Equates (known b) e type y (length (env a)) in
       conv_here a b c j k e u wanted type sort goes more at (term_stays a b wanted goes at_wanted) p (subst E (sym (tree_stays a b wanted goes at_wanted)) equal) knows is
 
-  pub compared_refused_again : (c : Standing) (f : InferFault) (w2 : Account) → Comes (Compares (env a) (nest + 1) type (tree_at a.items wanted)) (Gives tt) w w1
+  pub compared_stopped_again : (c : Standing) (f : InferFault) (w2 : Account) → Comes (Compares (env a) (nest + 1) type (tree_at a.items wanted)) (Gives tt) w w1
       → Stops c.items (again (env b) (count b.context) (part_reading nest (env b) b.context) q (tree_at b.items wanted)) f w1 w2
       → Stops c.items (suits (env a) (Compares (env a) (nest + 1)) (count a.context) (part_reading nest (env a) a.context) false q type (tree_at a.items wanted)) f w w2
-  compared_refused_again c f w2 same h =
+  compared_stopped_again c f w2 same h =
       compared_stops_again (env a) (Compares (env a) (nest + 1)) (count a.context) (part_reading nest (env a) a.context) c.items q type (tree_at a.items wanted) f w w1 w2 same
       (again_here (λ p. Stops c.items p f w1 w2) h)
 

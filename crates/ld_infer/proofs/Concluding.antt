@@ -5,7 +5,7 @@ use Rattle.ld_terms.specs.Tree.{Tree, Trees, Nil, Star, Box, ◌▸◌, count}
 use Rattle.ld_terms.specs.Item.{Item, One, Many, IsOne, tree}
 use Rattle.ld_terms.specs.Bank.{Extends, StandsFor, IsTermAt, item_at, tree_at, listed}
 use Rattle.ld_terms.specs.declared.bank.TermId.{TermId}
-use Rattle.ld_terms.specs.Derivable.{IsSort}
+use Rattle.ld_terms.specs.Derivable.{IsSort, IsLegalContext, ◌⨾◌⊢◌∶◌}
 use Rattle.ld_terms.specs.Known.{Known, Judgement, judgement_at}
 use Rattle.ld_terms.specs.Named.{IsWellFormed}
 use Rattle.ld_env.specs.Named.{Named}
@@ -18,11 +18,11 @@ use Rattle.ld_record.specs.declared.record.Step.{Step}
 use Rattle.ld_record.specs.Follows.{Follows}
 use Rattle.ld_record.specs.Kept.{known_of, judgement_of, FitsNode, IsSound}
 use Rattle.ld_record.specs.Growth.{Knows, KnowsContext, Adds, over_first}
-use Rattle.ld_record.proofs.CallerLemmas.{Says, said, node_fits, named, derivable}
+use Rattle.ld_record.proofs.CallerLemmas.{Says, said, node_fits, named, derivable, derivable_over_all}
 use Rattle.ld_infer.specs.declared.theory.Level.{Level}
 use Rattle.ld_infer.specs.declared.variable.Variable.{Variable}
 use Rattle.ld_infer.specs.Standing.{Standing, known, env, here, KnowsSort, without}
-use Rattle.ld_infer.specs.Theory.{context_of, IsLevel, IsVariable, IsTheory}
+use Rattle.ld_infer.specs.Theory.{context_of, level_at, IsLevel, IsVariable, IsTheory}
 use Rattle.ld_infer.specs.Variables.{judged_in, EndsWith}
 use Rattle.ld_infer.proofs.Contexts.{count-context_of, context_of-later, context_of-without, without-ends}
 use Rattle.ld_infer.proofs.Theories.{read_level, read_variable, variable_read, level_judgement, variable_judgement, judged_by, types_set}
@@ -153,3 +153,14 @@ well_formed s j t type sound knows =
     let names = named s.items s.kept j (here s t type) sound knows in
     let within = scopes (derivable s.items s.kept j (here s t type) sound knows) in
     (record { named = names.0; scoped = within.of_term }, record { named = names.1; scoped = within.of_type })
+
+-- The context is legal over the environment: the judgement of its last level is derivable over all entries.
+pub context_legal : (s : Standing) (star box : TermId) (levels : List Level) (variables : List Variable) → IsTheory s.items s.kept s.entries star box levels variables
+    → s.context ≡ context_of s.items variables → IsLegalContext (env s) s.context
+context_legal s star box levels variables h context =
+    let last = level_at levels (length variables) in
+    let level = h.levels_are.level (length variables) (omega arith) in
+    let judged = derivable_over_all s.items s.kept last.star (judgement_at (known s) last.star.0) h.sound (record { live = level.star.live; is = refl }) in
+    let Holds : Judgement → Type 0 = λ j. env s ⨾ j.context ⊢ j.term ∶ j.type in
+    subst (IsLegalContext (env s)) (context_of-all s.items variables (length variables) refl ∙ sym context)
+    (subst Holds (level_judgement (known s) (context_of s.items (take (length variables) variables)) last 0 level) judged)

@@ -33,3 +33,4 @@ pub mod SortsRead
 pub mod PartsRead
 pub mod FormsRead
 pub mod Rightness
+pub mod Refusing

@@ -9,8 +9,8 @@ use Rattle.ld_infer.specs.declared.failure.RuleName.{RuleName}
 use Rattle.ld_infer.specs.declared.failure.RuleName.TheVariants.{Form, Appl, Abst}
 use Rattle.ld_infer.specs.declared.failure.PathStep.{PathStep}
 use Rattle.ld_infer.specs.declared.failure.PathStep.TheVariants.{Dom, Ran, Fun, Arg, Body, Nth}
-use Rattle.ld_reduce.specs.Heads.{Expose, head_step, reaches}
-use Rattle.ld_reduce.specs.Task.{Fails, Gives, Nested, Task, gives, step, formed, small, high, no_answer, ◌>>=◌, ◌>>◌, faults_by}
+use Rattle.ld_reduce.specs.Heads.{Expose, head_step}
+use Rattle.ld_reduce.specs.Task.{Fails, Gives, Nested, Task, gives, step, formed, small, high, no_answer, ◌>>=◌, ◌>>◌}
 use Rattle.ld_reduce.proofs.Once.{runs_once}
 use Rattle.ld_convert.specs.Apart.{Apart}
 use Rattle.ld_convert.specs.Compares.{compare_within}
@@ -58,10 +58,8 @@ module _ (env : Env) (depth : ℕ) (read : Asked → Tree → Task Refusal Found
 
   again_once : (q : Asked) (t : Tree) → AnswersOnce (reading.again env depth read q t)
   again_once q t =
-      let sorted = faults_by (λ _. reading.refusal q depth Reason.Again) (reading.sort_of env depth read q t) in
-      then_once (step >> sorted) (gives tt)
-      (then_once step sorted (at_once (Gives tt) 1) (faults_once _ (reading.sort_of env depth read q t) (sort_of_once q t)))
-      (gives_once tt)
+      let sorted = reading.sort_of env depth read q t in
+      then_once (step >> sorted) (gives tt) (then_once step sorted (at_once (Gives tt) 1) (sort_of_once q t)) (gives_once tt)
 
   again_unless_once : (comes : Bool) (q : Asked) (t : Tree) → AnswersOnce (reading.again_unless env depth read comes q t)
   again_unless_once true q t = gives_once tt

@@ -8,10 +8,13 @@ use Rattle.ld_terms.specs.Bank.{Extends, tree_at, IsTermAt}
 use Rattle.ld_terms.specs.declared.bank.TermId.{TermId}
 use Rattle.ld_terms.proofs.Banks.{term_at_later}
 use Rattle.ld_record.specs.Growth.{Adds}
+use Rattle.ld_record.specs.Kept.{IsSound}
+use Rattle.ld_record.proofs.CallerLemmas.{sides_convert}
 use Rattle.ld_reduce.specs.Cost.{Equates}
 use Rattle.ld_reduce.specs.Work.{work}
 use Rattle.ld_reduce.proofs.Going.{equates_later}
 use Rattle.ld_convert.specs.Pairs.{pair_of, pairs_of, IsLivePair}
+use Rattle.ld_convert.specs.Sameness.{AreConvertible}
 use Rattle.ld_convert.specs.declared.job.Job.{Job}
 use Rattle.ld_convert.specs.declared.known.Pair.{Pair}
 use Rattle.ld_infer.specs.Account.{Account, account_by}
@@ -81,3 +84,11 @@ pairs_none s ps none =
 
 pub account_none : (s : Standing) (job : Job) (n : ℕ) → job.budget ≡ work n 0 → job.known ≡ [] → account s job ≡ account_by (work n 0) []
 account_none s job n budget none = ap₂ account_by budget (ap (pairs_of s.items) none)
+
+-- the trees of live pairs convert, by their equalities
+pub pairs_convert : (s : Standing) (ps : List Pair) → IsSound s.items s.kept → All (IsLivePair s.items (known s) (length (env s))) ps → AreConvertible (env s) (pairs_of s.items ps)
+pairs_convert s [] sound h = tt
+pairs_convert s (p ∷ ps) sound h =
+    let IsLive : Pair → Type 0 = IsLivePair s.items (known s) (length (env s)) in
+    let sides = (All-head IsLive p ps h).equal.sides in
+    (sides_convert s.items s.kept p.equal (tree_at s.items p.left) (tree_at s.items p.right) sound sides, pairs_convert s ps sound (All-tail IsLive p ps h))

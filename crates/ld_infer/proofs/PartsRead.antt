@@ -26,10 +26,10 @@ use Rattle.ld_infer.specs.declared.failure.PathStep.TheVariants.{Nth}
 use Rattle.ld_infer.specs.Parts.{PartAt, PartAmong}
 use Rattle.ld_infer.specs.Reading as reading
 use Rattle.ld_infer.specs.Reading.{Asked, Reason, Refusal, refusal, inside, Found, product_of}
-use Rattle.ld_infer.specs.Refusals.{HasType}
+use Rattle.ld_infer.specs.Refusals.{HasType, IsUntyped}
 use Rattle.ld_infer.proofs.ExposedHeads.{IsExposed, exposed_means}
 use Rattle.ld_infer.proofs.TypesRead.{product_by_test, no_product, box_no_product, steps_typed, all_but_last, last_argument}
-use Rattle.ld_infer.proofs.Refused.{Untyped, NoFunction, Misfit, Misfits, holds_here, holds_inside, holds_more}
+use Rattle.ld_infer.proofs.Refused.{NoFunction, Misfit, Misfits, holds_here, holds_inside, holds_more}
 use Rattle.ld_infer.proofs.SortsRead.{again_means}
 
 -- the type that a comparison finds apart from the one wanted
@@ -37,7 +37,7 @@ abbrev pub DifferAt : Env → (a b : Tree) → Apart → Type 0
 DifferAt env a b d = AreApart env a b d.left d.right
 
 module _ (env : Env) (ctx : Trees) (legal : IsLegalContext env ctx) (read : Asked → Tree → Task Refusal Found)
-    (hr : (q : Asked) (t : Tree) → Means env (read q t) (HasType env ctx t) (Untyped env ctx t)) where
+    (hr : (q : Asked) (t : Tree) → Means env (read q t) (HasType env ctx t) (IsUntyped env ctx t)) where
   -- a product that a type goes to has a sort, as the type has
   reduct_sorted : {n a b : Tree} → IsCorrect env ctx n → Steps env n (Pi a b) → HasSort env ctx (Pi a b)
   reduct_sorted {a = a} {b = b} IsCorrect.is_box w = absurd (box_no_product (heads_alike env (scopes legal).of_env Box (Pi a b) tt tt (steps_convert w)))
@@ -72,7 +72,7 @@ module _ (env : Env) (ctx : Trees) (legal : IsLegalContext env ctx) (read : Aske
       Means env (read q f >>= λ r. reading.product_in env (count ctx) read (product_of r.type) q r.type) (λ p. Derivable env ctx f (Pi p.0 p.1)) (NoFunction env ctx f)
   function_means q f =
       bind_means (HasType env ctx f)
-      (means_more (HasType env ctx f) (Untyped env ctx f) (λ r h. h) (λ e g. record { refused = λ a b d. g.refused (Pi a b) d; because = g.because }) (hr q f))
+      (means_more (HasType env ctx f) (IsUntyped env ctx f) (λ r h. h) (λ e g. record { refused = λ a b d. g.no_type (Pi a b) d; because = g.because }) (hr q f))
       (λ r h. product_in_means (product_of r.type) q f r.type refl h.typed)
 
   -- And hc says what the comparison means.
@@ -96,7 +96,7 @@ module _ (env : Env) (ctx : Trees) (legal : IsLegalContext env ctx) (read : Aske
         Means env (reading.suited_reading env compare (count ctx) read q wanted u) (λ _. Derivable env ctx u wanted) (Misfit env ctx u wanted)
     argument_means q wanted u h =
         bind_means (HasType env ctx u)
-        (means_more (HasType env ctx u) (Untyped env ctx u) (λ r g. g) (λ e f. record { refused = λ d. f.refused wanted d; because = f.because }) (hr q u))
+        (means_more (HasType env ctx u) (IsUntyped env ctx u) (λ r g. g) (λ e f. record { refused = λ d. f.no_type wanted d; because = f.because }) (hr q u))
         (λ r g. suits_means (equals r.type wanted) q u r.type wanted refl g.typed h)
 
     -- the type wanted of an argument has a sort

@@ -6,17 +6,9 @@ use Rattle.ld_terms.specs.Derivable.{Derivable, Arguments}
 use Rattle.ld_infer.specs.declared.failure.PathStep.{PathStep}
 use Rattle.ld_infer.specs.Parts.{PartAt, PartAmong}
 use Rattle.ld_infer.specs.Reading.{Asked, Reason, Refusal, refusal, inside}
-use Rattle.ld_infer.specs.Refusals.{HasNoType, HasNoSort, Holds, HoldsAt}
+use Rattle.ld_infer.specs.Refusals.{Holds, HoldsAt}
 
--- a term without a type, without a sort as a type, or without a product as one
-pub record Untyped (env : Env) (ctx : Trees) (t : Tree) (f : Refusal) : Type 0 where
-  pub refused : HasNoType env ctx t
-  pub because : HoldsAt env (PartAt ctx t) f
-
-pub record Unsorted (env : Env) (ctx : Trees) (t : Tree) (f : Refusal) : Type 0 where
-  pub refused : HasNoSort env ctx t
-  pub because : HoldsAt env (PartAt ctx t) f
-
+-- a term without a product as a type
 pub record NoFunction (env : Env) (ctx : Trees) (t : Tree) (f : Refusal) : Type 0 where
   pub refused : (a b : Tree) → Derivable env ctx t (Pi a b) → ⊥
   pub because : HoldsAt env (PartAt ctx t) f

@@ -1,21 +1,22 @@
 -- The sort of a term, of a domain, and of a type that is typed again.
-use Rattle.std.proofs.Common.{◌≡◌, ◌+◌, ◌-◌, ◌≤◌, ℕ, suc, Bool, true, false, ◌||◌, List, Result, Err, sym, subst, arith}
-use Rattle.ld_terms.specs.Tree.{Tree, Trees}
+use Rattle.std.proofs.Common.{◌≡◌, ◌+◌, ◌-◌, ◌≤◌, ℕ, suc, Bool, true, false, ◌||◌, List, Result, Ok, Err, sym, subst, arith}
+use Rattle.ld_terms.specs.Tree.{Tree, Trees, count}
 use Rattle.ld_terms.specs.Item.{Item}
 use Rattle.ld_terms.specs.Entry.{Env}
 use Rattle.ld_terms.specs.Tests.{is_star, is_box}
+use Rattle.ld_terms.specs.Bank.{tree_at}
+use Rattle.ld_terms.specs.declared.bank.TermId.{TermId}
+use Rattle.ld_record.specs.declared.record.JudgeId.{JudgeId}
 use Rattle.ld_infer.specs.declared.failure.InferFault.{InferFault}
-use Rattle.ld_infer.specs.declared.failure.InferFault.TheVariants as fault
-use Rattle.ld_reduce.specs.declared.stop.Stop.{Stop}
-use Rattle.ld_reduce.specs.declared.stop.Stop.TheVariants as stop
-use Rattle.ld_reduce.specs.Task.{Pairs, Task, Gives, Fails, High, Nested, Answers, gives, fails, step, Ends}
+use Rattle.ld_reduce.specs.Task.{Pairs, Task, Gives, Fails, Answers, gives, fails, step, ◌>>◌}
 use Rattle.ld_convert.specs.Compares.{Compares}
 use Rattle.ld_infer.specs.Account.{Account, Takes, Comes}
-use Rattle.ld_infer.specs.Reading.{Asked, Again, Refusal, refusal, Found, found, sort_in, sort_of, again, reading, read_within, Types, part_reading}
-use Rattle.ld_infer.specs.Infers.{Stops, StopsBy, IsToldAs, refusal_of}
+use Rattle.ld_infer.specs.Reading.{Asked, Refusal, Found, found, sort_in, sort_of, again, reading, read_within, Types, SortOf, part_reading}
+use Rattle.ld_infer.specs.Standing.{Standing, env}
+use Rattle.ld_infer.specs.Infers.{Stops, InfersSort, TypesAgain}
 use Rattle.ld_reduce.proofs.Tasks.{gives_answers, fails_answers, step_answers}
-use Rattle.ld_infer.proofs.Accounts.{comes_at_once, comes_then, comes_ended, comes_faulted, runs_out_first, runs_out_then, runs_out_faulted}
-use Rattle.ld_infer.proofs.Stopping.{stops_first, refused_by}
+use Rattle.ld_infer.proofs.Accounts.{comes_at_once, comes_then}
+use Rattle.ld_infer.proofs.Stopping.{stops_first, stops_then}
 
 -- a value that is given at once, and a fault
 pub gives_now : {E X : Type 0} (x : X) (w : Account) → Comes {E = E} (gives x) (Gives x) w w
@@ -55,35 +56,24 @@ module _ (Δ : Env) (depth : ℕ) (read : Asked → Tree → Task Refusal Found)
   pub again_given : (t sort : Tree) (w w1 w2 : Account) → Takes w w1 1 → w1.known ≡ w.known → Comes (sort_of Δ depth read q t) (Gives sort) w1 w2
       → Comes (again Δ depth read q t) (Gives tt) w w2
   again_given t sort w w1 w2 takes known h =
-      comes_then _ _ sort (Gives tt) w w2 w2
-      (comes_then step _ tt (Gives sort) w w1 w2 (one_step w w1 takes known) (comes_faulted (λ _. refusal q depth Again) (sort_of Δ depth read q t) (Gives sort) w1 w2 h))
-      (gives_now tt w2)
+      comes_then (step >> sort_of Δ depth read q t) _ sort (Gives tt) w w2 w2 (comes_then step _ tt (Gives sort) w w1 w2 (one_step w w1 takes known) h) (gives_now tt w2)
 
-  again_stop : (t : Tree) (s : Stop) (w w1 w2 : Account) → Takes w w1 1 → w1.known ≡ w.known → StopsBy (sort_of Δ depth read q t) s w1 w2 → StopsBy (again Δ depth read q t) s w w2
-  again_stop t stop.Spent w w1 w2 takes known h =
-      runs_out_first _ _ w w2 (runs_out_then step _ tt w w1 w2 (one_step w w1 takes known) (runs_out_faulted (λ _. refusal q depth Again) (sort_of Δ depth read q t) w1 w2 h))
-  again_stop t stop.High w w1 w2 takes known h =
-      comes_ended _ _ High High w w2
-      (comes_then step _ tt High w w1 w2 (one_step w w1 takes known) (comes_faulted (λ _. refusal q depth Again) (sort_of Δ depth read q t) High w1 w2 h)) Ends.high
-  again_stop t stop.Nested w w1 w2 takes known h =
-      comes_ended _ _ Nested Nested w w2
-      (comes_then step _ tt Nested w w1 w2 (one_step w w1 takes known) (comes_faulted (λ _. refusal q depth Again) (sort_of Δ depth read q t) Nested w1 w2 h)) Ends.nesting
-  again_stop t stop.Memory w w1 w2 takes known h = tt
+  -- a fault of the sort is one of typing again
+  pub again_stops : (items : List Item) (t : Tree) (f : InferFault) (w w1 w2 : Account) → Takes w w1 1 → w1.known ≡ w.known
+      → Stops items (sort_of Δ depth read q t) f w1 w2 → Stops items (again Δ depth read q t) f w w2
+  again_stops items t f w w1 w2 takes known h =
+      stops_first items (step >> sort_of Δ depth read q t) _ f w w2 (stops_then items step _ tt f w w1 w2 (one_step w w1 takes known) h)
 
-  again_fails : (t : Tree) (r : Refusal) (w w1 w2 : Account) → Takes w w1 1 → w1.known ≡ w.known → Comes (sort_of Δ depth read q t) (Fails r) w1 w2
-      → Comes (again Δ depth read q t) (Fails (refusal q depth Again)) w w2
-  again_fails t r w w1 w2 takes known h =
-      comes_ended _ _ (Fails (refusal q depth Again)) (Fails (refusal q depth Again)) w w2
-      (comes_then step _ tt (Fails (refusal q depth Again)) w w1 w2 (one_step w w1 takes known) (comes_faulted (λ _. refusal q depth Again) (sort_of Δ depth read q t) (Fails r) w1 w2 h))
-      Ends.fault
-
-  -- a fault of the sort, told of typing again
-  pub again_stops : (items : List Item) (t : Tree) (f g : InferFault) (w w1 w2 : Account) → Takes w w1 1 → w1.known ≡ w.known
-      → Stops items (sort_of Δ depth read q t) f w1 w2 → IsToldAs items (refusal q depth Again) f g → Stops items (again Δ depth read q t) g w w2
-  again_stops items t (fault.Refused x) g w w1 w2 takes known h is =
-      refused_by items (again Δ depth read q t) (refusal q depth Again) g w w2 is (again_fails t (refusal_of items x) w w1 w2 takes known h)
-  again_stops items t (fault.Stop s) g w w1 w2 takes known h is =
-      let P : InferFault → Type 0 = λ x. Stops items (again Δ depth read q t) x w w2 in subst P (sym is) (again_stop t s w w1 w2 takes known h)
+-- what typing again answers, from what the sort answers behind its step
+pub typed_again : (a b : Standing) (nest : ℕ) (q : Asked) (t : TermId) (w w1 w2 : Account) → Takes w w1 1 → w1.known ≡ w.known → (r : Result (TermId × JudgeId) InferFault)
+    → InfersSort a b (SortOf (env a) a.context (nest + 1) q (tree_at a.items t)) t w1 w2 r
+    → TypesAgain a b (again (env a) (count a.context) (part_reading nest (env a) a.context) q (tree_at a.items t)) t w w2 r
+typed_again a b nest q t w w1 w2 takes known (Ok s) h = record {
+  has = h.has;
+  gives = again_given (env a) (count a.context) (part_reading nest (env a) a.context) q (tree_at a.items t) (tree_at b.items s.0) w w1 w2 takes known h.gives;
+}
+typed_again a b nest q t w w1 w2 takes known (Err f) h =
+    again_stops (env a) (count a.context) (part_reading nest (env a) a.context) q b.items (tree_at a.items t) f w w1 w2 takes known h
 
 -- the answer is a fault that was passed on
 pub at_fault : {X : Type 0} (P : Result X InferFault → Type 0) (r : Result X InferFault) (f g : InferFault) → r ≡ Err g → g ≡ f → P (Err f) → P r

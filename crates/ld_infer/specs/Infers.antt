@@ -35,7 +35,7 @@ use Rattle.ld_infer.specs.declared.function.FunctionTyped.{FunctionTyped}
 use Rattle.ld_infer.specs.declared.variable.VariableTyped.{VariableTyped}
 use Rattle.ld_reduce.specs.Task.{Task, Gives, Fails, High, Nested}
 use Rattle.ld_infer.specs.Account.{Account, Comes, RunsOut}
-use Rattle.ld_infer.specs.Reading.{Reason, NoType, NotSort, NotFunction, BoxBody, NotSame, Again, Refusal, Found, found, type_in, exposed}
+use Rattle.ld_infer.specs.Reading.{Reason, NoType, NotSort, NotFunction, BoxBody, NotSame, Refusal, Found, found, type_in, exposed}
 use Rattle.ld_infer.specs.Standing.{Standing, known, env, here, without, KnowsSort}
 
 -- a failure of the code, with its terms as trees
@@ -46,7 +46,6 @@ reason_of items (why.NotFunction t) = NotFunction (tree_at items t)
 reason_of items why.BoxBody = BoxBody
 reason_of items (why.NotSame t wanted left right under) =
     NotSame (tree_at items t) (tree_at items wanted) (apart (tree_at items left) (tree_at items right) under)
-reason_of items why.Again = Again
 
 abbrev pub refusal_of : List Item → Failure → Refusal
 refusal_of items f = record { rule = f.rule; premise = f.premise; path = f.path; depth = f.depth; reason = reason_of items f.why }
@@ -168,11 +167,6 @@ pub record ArePrefixes (items : List Item) (us : Trees) (lists : List TermId) : 
 abbrev pub IsRefusedBy : List Item → Refusal → InferFault → Type 0
 IsRefusedBy items r (fault.Refused f) = refusal_of items f ≡ r
 IsRefusedBy items r (fault.Stop s) = ⊥
-
--- the fault of a type that is typed again: a refusal is told as this one
-abbrev pub IsToldAs : List Item → Refusal → (part whole : InferFault) → Type 0
-IsToldAs items r (fault.Refused f) whole = IsRefusedBy items r whole
-IsToldAs items r (fault.Stop s) whole = whole ≡ fault.Stop s
 
 -- the fault of a part, told of the whole: the step stands in front of a refusal's path, unless memory runs out
 abbrev pub IsWithin : PathStep → (part whole : InferFault) → Type 0

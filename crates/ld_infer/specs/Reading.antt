@@ -25,8 +25,6 @@ pub data Reason : Type 0 where
   NotFunction : (found : Tree) → Reason
   BoxBody : Reason
   NotSame : (found wanted : Tree) → Apart → Reason
-  -- a type that is typed again is refused
-  Again : Reason
 
 -- the premise that fails, the part at which it does, and the number of variables there
 pub record Refusal : Type 0 where
@@ -97,9 +95,9 @@ module _ (env : Env) (depth : ℕ) (read : Asked → Tree → Task Refusal Found
   abbrev pub sort_of : Asked → Tree → Task Refusal Tree
   sort_of q t = read q t >>= λ r. sort_in env depth (is_star r.type || is_box r.type) q r.type
 
-  -- typing again: one step, and then the sort
+  -- Typing again: one step, and then the sort. No refusal comes there, for what a reading types again.
   abbrev pub again : Asked → Tree → Task Refusal (Unit {0})
-  again q t = step >> faults_by (λ _. refusal q depth Again) (sort_of q t) >> gives tt
+  again q t = step >> sort_of q t >> gives tt
 
   abbrev pub again_unless : (sort_comes : Bool) → Asked → Tree → Task Refusal (Unit {0})
   again_unless true q t = gives tt

@@ -7,7 +7,8 @@ use Rattle.ld_laws.specs.Typing.{HasSort}
 use Rattle.ld_convert.specs.Apart.{Apart}
 use Rattle.ld_convert.specs.Apartness.{AreApart}
 use Rattle.ld_infer.specs.declared.failure.PathStep.{PathStep}
-use Rattle.ld_infer.specs.Reading.{Reason, NoType, NotSort, NotFunction, BoxBody, NotSame, Again, Refusal, Found}
+use Rattle.ld_infer.specs.Parts.{PartAt}
+use Rattle.ld_infer.specs.Reading.{Reason, NoType, NotSort, NotFunction, BoxBody, NotSame, Refusal, Found}
 
 -- The term has the type; and where the type's sort comes with it, the type has one.
 pub record HasType (env : Env) (ctx : Trees) (t : Tree) (r : Found) : Type 0 where
@@ -49,14 +50,13 @@ pub record HasOtherType (env : Env) (ctx : Trees) (t type wanted : Tree) (d : Ap
   pub other : ¬ Derivable env ctx t wanted
   pub differ : AreApart env type wanted d.left d.right
 
--- what a reason says of the part; no type that is typed again is refused
+-- what a reason says of the part
 abbrev pub Holds : Env → (ctx : Trees) → Tree → Reason → Type 0
 Holds env ctx t NoType = t ≡ Box
 Holds env ctx t (NotSort type) = IsNoType env ctx t type
 Holds env ctx t (NotFunction type) = IsNoFunction env ctx t type
 Holds env ctx t BoxBody = HasBoxBody env ctx t
 Holds env ctx t (NotSame type wanted d) = HasOtherType env ctx t type wanted d
-Holds env ctx t Again = ⊥
 
 -- The reason holds of the part that is found at the refusal's path, in a context of as many variables as it says.
 pub record HoldsAt (env : Env) (Finds : List PathStep → Trees → Tree → Type 0) (f : Refusal) : Type 0 where
@@ -65,3 +65,13 @@ pub record HoldsAt (env : Env) (Finds : List PathStep → Trees → Tree → Typ
   pub there : Finds f.path context part
   pub depth_is : count context ≡ f.depth
   pub holds : Holds env context part f.reason
+
+-- The term has no type, and the reason holds of the part at the refusal's path.
+pub record IsUntyped (env : Env) (ctx : Trees) (t : Tree) (f : Refusal) : Type 0 where
+  pub no_type : HasNoType env ctx t
+  pub because : HoldsAt env (PartAt ctx t) f
+
+-- No sort is a type of the term, and the reason holds of the part at the refusal's path.
+pub record IsUnsorted (env : Env) (ctx : Trees) (t : Tree) (f : Refusal) : Type 0 where
+  pub no_sort : HasNoSort env ctx t
+  pub because : HoldsAt env (PartAt ctx t) f

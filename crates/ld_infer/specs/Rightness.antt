@@ -1,13 +1,14 @@
 -- A reading is right: a type or a sort that it gives is derivable, and what it refuses has none. It reads in a legal context,
 -- which is one over a legal environment, and begins with known pairs whose trees are convertible.
-use Rattle.std.specs.Prelude.{◌≢◌, ℕ}
-use Rattle.ld_terms.specs.Tree.{Tree, Trees}
+use Rattle.std.specs.Prelude.{ℕ}
+use Rattle.ld_terms.specs.Tree.{Tree, Trees, count}
 use Rattle.ld_terms.specs.Entry.{Env}
 use Rattle.ld_terms.specs.Derivable.{IsLegalContext}
+use Rattle.ld_laws.specs.Typing.{HasSort}
 use Rattle.ld_reduce.specs.Task.{Pairs, Answer, Gives, Fails}
 use Rattle.ld_convert.specs.Sameness.{AreConvertible}
 use Rattle.ld_infer.specs.Parts.{PartAt}
-use Rattle.ld_infer.specs.Reading.{Asked, Again, Refusal, Found, Types, SortOf}
+use Rattle.ld_infer.specs.Reading.{Asked, Refusal, Found, again, Types, SortOf, part_reading}
 use Rattle.ld_infer.specs.Refusals.{HasType, IsSortOf, HasNoType, HasNoSort, HoldsAt}
 
 -- A term has the type or the sort that is read; and whatever the answer is, the trees of the pairs left are convertible.
@@ -28,12 +29,10 @@ pub record RefusedUntyped : Type 0 where
   pub sorts : (env : Env) (ctx : Trees) (nesting : ℕ) (q : Asked) (t : Tree) (K L : Pairs) (f : Refusal) (n : ℕ) →
       IsLegalContext env ctx → AreConvertible env K → SortOf env ctx nesting q t K (Fails f) L n → HasNoSort env ctx t
 
--- No type is refused where it is typed again.
-pub record AgainNotRefused : Type 0 where
-  pub types : (env : Env) (ctx : Trees) (nesting : ℕ) (q : Asked) (t : Tree) (K L : Pairs) (f : Refusal) (n : ℕ) →
-      IsLegalContext env ctx → AreConvertible env K → Types env ctx nesting q t K (Fails f) L n → f.reason ≢ Again
-  pub sorts : (env : Env) (ctx : Trees) (nesting : ℕ) (q : Asked) (t : Tree) (K L : Pairs) (f : Refusal) (n : ℕ) →
-      IsLegalContext env ctx → AreConvertible env K → SortOf env ctx nesting q t K (Fails f) L n → f.reason ≢ Again
+-- Where a reading at some nesting types a type again that has a sort, the type isn't refused.
+abbrev pub AgainNotRefused : Type 0
+AgainNotRefused = (env : Env) (ctx : Trees) (nesting : ℕ) (q : Asked) (t : Tree) (K L : Pairs) (f : Refusal) (n : ℕ) →
+    IsLegalContext env ctx → AreConvertible env K → HasSort env ctx t → ¬ again env (count ctx) (part_reading nesting env ctx) q t K (Fails f) L n
 
 -- The reason of a refusal holds of the part at its path.
 pub record ReasonsHold : Type 0 where

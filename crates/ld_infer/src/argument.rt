@@ -9,7 +9,7 @@ ghost use Rattle.ld_infer.specs.Standing.{known, env, here, account, Continues, 
 ghost use Rattle.ld_infer.specs.Infers.{Suits, IsReadable};
 
 use crate::failure::{InferFault, PathStep, RuleName, Why};
-use crate::inference::{Typed, infer, type_again};
+use crate::inference::{Typed, infer_part, type_again};
 use crate::refusal::{refusal, within};
 use crate::theory::Theory;
 use ld_convert::{Compared, Job};
@@ -71,7 +71,7 @@ fn suited_judgement(
     ensures pairs { KnowsPairs theory.new job.new.known }
     ensures most { job.new.budget.left ≤ job.old.budget.left }
 {
-    let typed = infer(alloc, theory, asked, u, nest + 1, job)?;
+    let typed = infer_part(alloc, theory, asked, u, nest + 1, job)?;
     if theory.bank().same(typed.of, wanted) {
         return Ok(typed.judge);
     }

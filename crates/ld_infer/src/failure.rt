@@ -110,8 +110,6 @@ pub enum Why {
         right: TermId,
         under: u32,
     },
-    /// A type that is typed again is refused.
-    Again,
 }
 
 /// A premise that fails: the rule that asks for it, the premise's number in the rule table, the path to the

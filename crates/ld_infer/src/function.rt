@@ -9,7 +9,7 @@ ghost use Rattle.ld_infer.specs.Infers.{InfersFunction, IsReadable};
 ghost use Rattle.ld_infer.specs.declared.failure.RuleName.TheVariants as rule;
 
 use crate::failure::{InferFault, PathStep, RuleName, Why};
-use crate::inference::{Typed, infer, type_again};
+use crate::inference::{Typed, infer_part, type_again};
 use crate::refusal::{refusal, within};
 use crate::theory::Theory;
 use ld_convert::Job;
@@ -69,7 +69,7 @@ fn product_type(
     ensures pairs { KnowsPairs theory.new job.new.known }
     ensures most { job.new.budget.left ≤ job.old.budget.left }
 {
-    let typed = infer(alloc, theory, (RuleName::Appl, 1), f, nest + 1, job)?;
+    let typed = infer_part(alloc, theory, (RuleName::Appl, 1), f, nest + 1, job)?;
     match theory.bank().node(typed.of) {
         Node::Pi(domain, range) => Ok(FunctionTyped {
             judge: typed.judge,

@@ -15,7 +15,7 @@ use crate::failure::{InferFault, PathStep, RuleName, Why};
 use crate::function::function_type;
 use crate::instance::instance;
 use crate::leaf::{sort_of_sort, star, variable};
-use crate::refusal::{box_body, refusal, refused_again, within};
+use crate::refusal::{box_body, refusal, within};
 use crate::theory::Theory;
 use ld_convert::Job;
 use ld_record::{JudgeId, Step};
@@ -43,11 +43,9 @@ struct BodyTyped {
     sort: (TermId, JudgeId),
 }
 
-/// The type of a term in the theory's context, by the rules for its form. `asked` is the rule and the number of the
-/// premise for which the type is wanted: they are reported where the term is `box`. `nest` is the nesting of this reading,
-/// 1 for a whole term; readings nested deeper than 1,000 are stopped. A fault is a premise of a rule that fails, or a stop.
+// The type of a term or of a part of one, by the rules for its form.
 #[cycle(infer)]
-pub fn infer(
+pub(crate) fn infer_part(
     alloc: Global,
     theory: &mut Theory,
     asked: (RuleName, u32),
@@ -79,10 +77,9 @@ pub fn infer(
     }
 }
 
-/// The sort of a term, with a judgement of the term and the sort. A type that isn't `*` or `box` as it stands is reduced at
-/// its head. It faults as [`infer`] does, and where that doesn't lead to `*`.
+// The sort of a term or of a part of one: the type that it has is a sort as it stands, or leads to `*` at its head.
 #[cycle(infer)]
-pub fn sort_of(
+pub(crate) fn sort_of_part(
     alloc: Global,
     theory: &mut Theory,
     asked: (RuleName, u32),
@@ -99,7 +96,7 @@ pub fn sort_of(
     ensures pairs { KnowsPairs theory.new job.new.known }
     ensures most { job.new.budget.left ≤ job.old.budget.left }
 {
-    let typed = infer(alloc, theory, asked, t, nest, job)?;
+    let typed = infer_part(alloc, theory, asked, t, nest, job)?;
     match theory.bank().node(typed.of) {
         Node::Star | Node::Box_ => Ok((typed.of, typed.judge)),
         _ => exposed_sort(alloc, theory, asked, t, typed, job),
@@ -127,10 +124,7 @@ pub(crate) fn type_again(
     ensures most { job.new.budget.left ≤ job.old.budget.left }
 {
     job.budget.step()?;
-    match sort_of(alloc, theory, asked, t, nest + 1, job) {
-        Ok(sort) => Ok(sort),
-        Err(fault) => Err(refused_again(alloc, theory, asked, fault)),
-    }
+    sort_of_part(alloc, theory, asked, t, nest + 1, job)
 }
 
 // The type of a product is the sort of its range, below one variable more.
@@ -158,7 +152,7 @@ fn product(
 {
     let domain = domain_sort(alloc, theory, RuleName::Form, a, nest, job)?;
     theory.enter(a, domain.1)?;
-    let range = sort_of(alloc, theory, (RuleName::Form, 2), b, nest + 1, job);
+    let range = sort_of_part(alloc, theory, (RuleName::Form, 2), b, nest + 1, job);
     theory.leave();
     let range = match range {
         Ok(range) => range,
@@ -193,7 +187,7 @@ fn domain_sort(
     ensures pairs { KnowsPairs theory.new job.new.known }
     ensures most { job.new.budget.left ≤ job.old.budget.left }
 {
-    match sort_of(alloc, theory, (rule, 1), a, nest + 1, job) {
+    match sort_of_part(alloc, theory, (rule, 1), a, nest + 1, job) {
         Ok(domain) => Ok(domain),
         Err(fault) => Err(within(PathStep::Dom, fault)),
     }
@@ -257,7 +251,7 @@ fn body_type(
     ensures pairs { KnowsPairs theory.new job.new.known }
     ensures most { job.new.budget.left ≤ job.old.budget.left }
 {
-    let typed = match infer(alloc, theory, (RuleName::Abst, 1), m, nest + 1, job) {
+    let typed = match infer_part(alloc, theory, (RuleName::Abst, 1), m, nest + 1, job) {
         Ok(typed) => typed,
         Err(fault) => return Err(within(PathStep::Body, fault)),
     };

@@ -3,13 +3,16 @@ ghost use Rattle.std.specs.Prelude.{◌≡◌, ◌<◌, ◌+◌, ◌^◌, length
 ghost use Rattle.ld_terms.specs.Tree.{Tree, Star, count};
 ghost use Rattle.ld_terms.specs.Bank.{tree_at, IsTermAt};
 ghost use Rattle.ld_terms.specs.Named.{IsWellFormed};
+ghost use Rattle.ld_terms.specs.Derivable.{IsLegalContext};
 ghost use Rattle.ld_terms.specs.Known.{line_entry, primitive_entry, IsFree};
 ghost use Rattle.ld_record.specs.Growth.{Knows};
 ghost use Rattle.ld_record.specs.Follows.{Follows};
-ghost use Rattle.ld_infer.specs.Standing.{known, env, here, KnowsSort, Enters, AddsEntry, Continues, Goes};
+ghost use Rattle.ld_convert.specs.Sameness.{AreConvertible};
+ghost use Rattle.ld_infer.specs.Standing.{known, env, here, account, KnowsSort, KnowsPairs, Enters, AddsEntry, Continues, Goes};
 
 use crate::theory::Theory;
 use fb_base::NoMemory;
+use ld_convert::Job;
 use ld_env::Entry;
 use ld_record::{JudgeId, Step};
 use ld_terms::TermId;
@@ -22,6 +25,22 @@ impl Theory {
             → IsWellFormed (env self.now) (count self.now.context) t × IsWellFormed (env self.now) (count self.now.context) type }
     {
         let _deriv = self.deriv();
+    }
+
+    /// The context is legal over the environment. It does nothing: callers call it for what it says.
+    pub fn keeps_legal(&self)
+        ensures { IsLegalContext (env self.now) self.now.context }
+    {
+        let _deriv = self.deriv();
+    }
+
+    /// The terms of each pair that a job knows are convertible. It does nothing: callers call it for what it says.
+    pub fn keeps_convertible(&self, job: &Job)
+        requires pairs { KnowsPairs self.now job.now.known }
+        ensures { AreConvertible (env self.now) (account self.now job.now).known }
+    {
+        let _deriv = self.deriv();
+        let _left = job.budget.left();
     }
 
     /// Puts a variable of the type `of` at the end of the context. `sort` is a judgement for a sort of the type.

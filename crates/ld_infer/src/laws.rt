@@ -22,7 +22,9 @@ pub fn refused_untyped()
     ensures { RefusedUntyped }
 {}
 
-/// No type is refused where it is typed again.
+/// A type that has a sort is not refused where it is typed again. What a reading types again has one: the type of a body
+/// that isn't `box`, a product to which the type of a function leads, and the type that is wanted of an argument. So each
+/// refusal points to a part of the term itself, and none to a type that is typed again, as [`reasons_hold`] says.
 pub fn again_not_refused()
     ensures { AgainNotRefused }
 {}

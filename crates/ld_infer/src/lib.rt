@@ -15,12 +15,14 @@ mod refusal;
 #[cfg(test)]
 mod tests;
 mod theory;
+mod typing;
 mod variable;
 
 pub use failure::{Failure, InferFault, Path, PathStep, RuleName, Why};
-pub use inference::{Typed, infer, sort_of};
+pub use inference::Typed;
 pub use ld_convert::Job;
 pub use ld_reduce::Stop;
 pub use refusal::within;
 pub use theory::Theory;
+pub use typing::{infer, sort_of};
 pub use variable::VariableTyped;

@@ -3,7 +3,7 @@ ghost use Rattle.std.specs.Prelude.{◌<◌, ◌-◌, ◌^◌, List};
 ghost use Rattle.ld_terms.specs.Tree.{count};
 ghost use Rattle.ld_terms.specs.Item.{Item};
 ghost use Rattle.ld_infer.specs.Reading as reading;
-ghost use Rattle.ld_infer.specs.Infers.{IsRefusedBy, IsToldAs, IsWithin, reason_of};
+ghost use Rattle.ld_infer.specs.Infers.{IsRefusedBy, IsWithin, reason_of};
 ghost use Rattle.ld_infer.specs.declared.failure.RuleName.TheVariants as rule;
 
 use crate::failure::{Failure, InferFault, Path, PathStep, RuleName, Why};
@@ -28,22 +28,6 @@ pub(crate) fn refusal(
         depth: theory.depth(),
         why,
     })
-}
-
-// The fault of a type that is typed again: a refusal is told of the type itself.
-pub(crate) fn refused_again(
-    alloc: Global,
-    theory: &Theory,
-    asked: (RuleName, u32),
-    fault: InferFault,
-) -> InferFault
-    requires { count theory.now.context < 2 ^ 32 }
-    ensures { (items : List Item) → IsToldAs items (reading.refusal asked (count theory.now.context) reading.Again) fault result }
-{
-    match fault {
-        InferFault::Refused(_) => refusal(alloc, theory, asked, Why::Again),
-        other => other,
-    }
 }
 
 // The refusal of an abstraction whose body has the type box. The theory is in the context of the body.

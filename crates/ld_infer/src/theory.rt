@@ -1,7 +1,8 @@
 //! A theory: an environment with its derivation, and a context.
 ghost use Rattle.std.specs.Prelude.{◌≡◌, ◌<◌, ◌≤◌, ◌+◌, ◌-◌, ◌^◌, [], length, IfOk, OnOk, OnErr};
 ghost use Rattle.ld_terms.specs.Tree.{Tree, Star, Box, Nil, count};
-ghost use Rattle.ld_terms.specs.Bank.{tree_at, list_at, item_of, HasParts, IsTermAt, IsListAt, StandsFor, Holds};
+ghost use Rattle.ld_terms.specs.Bank.{tree_at, list_at, item_at, item_of, listed, HasParts, IsTermAt, IsListAt, StandsFor, Holds};
+ghost use Rattle.ld_terms.specs.Derivable.{IsLegalContext};
 ghost use Rattle.ld_terms.specs.Known.{nothing, judgement_at};
 ghost use Rattle.ld_terms.specs.Named.{IsNamed};
 ghost use Rattle.ld_env.specs.Entries.{entry_of, env_of, IsLiveEntry, AreLive};
@@ -57,7 +58,6 @@ impl Theory {
     ghost use Rattle.std.specs.Prelude.{◌↔◌, All};
     ghost use Rattle.ld_terms.specs.Item.{One, IsSmall};
     ghost use Rattle.ld_terms.specs.Put.{lift, put};
-    ghost use Rattle.ld_terms.specs.Bank.{item_at, listed};
     ghost use Rattle.ld_record.specs.Kept.{IsSound, FitsEntry, entry_by};
     ghost use Rattle.ld_record.specs.Growth.{Knows, Adds};
     ghost use Rattle.ld_record.specs.Follows.{Follows};
@@ -116,10 +116,11 @@ impl Theory {
         &self.env
     }
 
-    /// The derivation that is kept.
+    /// The derivation that is kept. The context is legal over its entries.
     pub fn deriv(&self) -> &Deriv
         ensures kept { result.now ≡ self.now.kept }
         ensures sound { IsSound self.now.items result.now }
+        ensures legal { IsLegalContext (env self.now) self.now.context }
     {
         &self.deriv
     }

@@ -22,20 +22,20 @@ use Rattle.ld_reduce.specs.Task.{Gives, gives}
 use Rattle.ld_convert.specs.Compares.{Compares}
 use Rattle.ld_convert.specs.declared.job.Compared.{Compared}
 use Rattle.ld_infer.specs.Account.{Account, Comes}
-use Rattle.ld_infer.specs.Reading.{Types, SortOf, read_within, part_reading, again_unless, refused, refusal, NoType, BoxBody, Again, found, type_in, variable_reading, product_reading, abstraction_reading, application_reading, body_reading, product_in, product_read, suits, suited_reading, next_argument, arguments}
+use Rattle.ld_infer.specs.Reading.{Types, SortOf, read_within, part_reading, again_unless, refused, refusal, NoType, BoxBody, found, type_in, variable_reading, product_reading, abstraction_reading, application_reading, body_reading, product_in, product_read, suits, suited_reading, next_argument, arguments}
 use Rattle.ld_infer.specs.Standing.{env, without, account}
-use Rattle.ld_infer.specs.Infers.{AreReadable, ComparesTypes, Infers, InfersSort, TypesAgain, InfersBody, InfersFunction, Suits, JudgesArguments, IsTyped, IsSorted, IsBodyTyped, IsFunctionTyped, IsSuited, AreJudged, ArePrefixes, IsInstanceStep, Stops, IsRefusedBy, IsToldAs}
+use Rattle.ld_infer.specs.Infers.{AreReadable, ComparesTypes, Infers, InfersSort, TypesAgain, InfersBody, InfersFunction, Suits, JudgesArguments, IsTyped, IsSorted, IsBodyTyped, IsFunctionTyped, IsSuited, AreJudged, ArePrefixes, IsInstanceStep, Stops, IsRefusedBy}
 use Rattle.ld_infer.proofs.Stopping.{stops_within, gives_within, refused_by}
 use Rattle.ld_infer.proofs.Going.{continues_trans, term_stays, tree_stays, formed_later, readable_later}
 use Rattle.ld_infer.proofs.Nodes.{node_item, node_tree, sort_node, sort_tested, no_sort_node, no_box_node, no_product_node, same_items}
-use Rattle.ld_infer.proofs.Sorts.{at_fault, fails_now, reads, sort_given, sort_stops, again_given, again_stops}
+use Rattle.ld_infer.proofs.Sorts.{at_fault, fails_now, reads, sort_given, sort_stops, typed_again}
 use Rattle.ld_infer.proofs.Parting.{product_read_stops, suited_stops}
 use Rattle.ld_infer.proofs.Binding.{product_stops_domain, abstraction_stops_domain, body_stops, body_box}
 use Rattle.ld_infer.proofs.Applying.{application_stops_function}
 use Rattle.ld_infer.proofs.Inferring.{function_typed, suited_typed, application_refused, application_high, application_typed, sort_come, held_term, held_small, body_typed, body_refused, type_well_formed}
 use Rattle.ld_infer.proofs.Around.{IsAround, around, inner_account, outer_account, outer_pairs, told_outside, range_refused, product_typed, body_stopped, abstraction_high, abstraction_typed, abstraction_follows, outer_tree, inner_context, sort_outside}
 use Rattle.ld_infer.proofs.Exposure.{sort_later, product_later, product_stopped, product_reached, product_not_reached, product_expose_stopped, conv_here}
-use Rattle.ld_infer.proofs.Comparing.{suited_compared, compared_typed, conv_wanted, compared_refused_again, compared_refused, compared_stopped}
+use Rattle.ld_infer.proofs.Comparing.{suited_compared, compared_typed, conv_wanted, compared_stopped_again, compared_refused, compared_stopped}
 use Rattle.ld_infer.proofs.Pairs.{told_later, account_stays, pairs_later}
 use Rattle.ld_infer.proofs.Prefixing.{cons_parts}
 use Rattle.ld_infer.proofs.Instances.{instance_parts, entry_here, instance_task, instance_refused, instance_high, instance_ready, instance_typed}
@@ -43,8 +43,8 @@ use Rattle.ld_infer.proofs.Judging.{next_high, suits_next, but, AreBegun, begun_
 use Rattle.ld_infer.proofs.+infer.Goals as goal
 
 -- The reading of a term, by its form.
-pub inference::infer-returns-in-Star-clause-answer : goal.inference::infer-returns-in-Star-clause-answer
-inference::infer-returns-in-Star-clause-answer t c =
+pub inference::infer_part-returns-in-Star-clause-answer : goal.inference::infer_part-returns-in-Star-clause-answer
+inference::infer_part-returns-in-Star-clause-answer t c =
     let a = c.args.theory.now in
     let z = c.star.new.theory in
     let job = c.args.job.now in
@@ -52,16 +52,16 @@ inference::infer-returns-in-Star-clause-answer t c =
     (node_tree c.bank.result.now a.items node.Star c.args.t c.bank.ensures c.in-Star.ensures.tree)
     (told_later a z job (λ w. Infers a z (gives (found Box false)) c.args.t (account a job) w c.star.result) c.star.ensures.continues c.requires.pairs (c.star.ensures.answer (account a job)))
 
-pub inference::infer-returns-in-Box_-clause-answer : goal.inference::infer-returns-in-Box_-clause-answer
-inference::infer-returns-in-Box_-clause-answer t c =
+pub inference::infer_part-returns-in-Box_-clause-answer : goal.inference::infer_part-returns-in-Box_-clause-answer
+inference::infer_part-returns-in-Box_-clause-answer t c =
     let a = c.args.theory.now in
     let w = (account c.args.theory.now c.args.job.now) in
     reads (env a) a.context c.args.nest c.args.asked (tree_at a.items c.args.t) Box (λ p. Stops a.items p c.refusal.result w w) (omega arith)
     (node_tree c.bank.result.now a.items node.Box_ c.args.t c.bank.ensures c.in-Box_.ensures.tree)
     (refused_by a.items (refused (count a.context) c.args.asked NoType) (refusal c.args.asked (count a.context) NoType) c.refusal.result w w (c.refusal.ensures a.items) (fails_now _ w))
 
-pub inference::infer-returns-in-Var-clause-answer : goal.inference::infer-returns-in-Var-clause-answer
-inference::infer-returns-in-Var-clause-answer t c =
+pub inference::infer_part-returns-in-Var-clause-answer : goal.inference::infer_part-returns-in-Var-clause-answer
+inference::infer_part-returns-in-Var-clause-answer t c =
     let a = c.args.theory.now in
     let z = c.variable.new.theory in
     let job = c.args.job.now in
@@ -69,63 +69,63 @@ inference::infer-returns-in-Var-clause-answer t c =
     (node_tree c.bank.result.now a.items (node.Var c.in-Var.i) c.args.t c.bank.ensures c.in-Var.ensures.tree)
     (told_later a z job (λ w. Infers a z (variable_reading (type_in a.context c.in-Var.i)) c.args.t (account a job) w c.variable.result) c.variable.ensures.continues c.requires.pairs (c.variable.ensures.answer (account a job)))
 
-pub inference::infer-returns-in-Pi-clause-answer : goal.inference::infer-returns-in-Pi-clause-answer
-inference::infer-returns-in-Pi-clause-answer t c =
+pub inference::infer_part-returns-in-Pi-clause-answer : goal.inference::infer_part-returns-in-Pi-clause-answer
+inference::infer_part-returns-in-Pi-clause-answer t c =
     let a = c.args.theory.now in
     reads (env a) a.context c.args.nest c.args.asked (tree_at a.items c.args.t) (Pi (tree_at a.items c.in-Pi.a) (tree_at a.items c.in-Pi.b))
     (λ p. Infers a c.product.new.theory p c.args.t (account c.args.theory.now c.args.job.now) (account c.product.new.theory c.product.new.job) c.product.result) (omega arith)
     (node_tree c.bank.result.now a.items (node.Pi c.in-Pi.a c.in-Pi.b) c.args.t c.bank.ensures c.in-Pi.ensures.tree) c.product.ensures.answer
 
-pub inference::infer-returns-in-Lam-clause-answer : goal.inference::infer-returns-in-Lam-clause-answer
-inference::infer-returns-in-Lam-clause-answer t c =
+pub inference::infer_part-returns-in-Lam-clause-answer : goal.inference::infer_part-returns-in-Lam-clause-answer
+inference::infer_part-returns-in-Lam-clause-answer t c =
     let a = c.args.theory.now in
     reads (env a) a.context c.args.nest c.args.asked (tree_at a.items c.args.t) (Lam (tree_at a.items c.in-Lam.a) (tree_at a.items c.in-Lam.m))
     (λ p. Infers a c.abstraction.new.theory p c.args.t (account c.args.theory.now c.args.job.now) (account c.abstraction.new.theory c.abstraction.new.job) c.abstraction.result) (omega arith)
     (node_tree c.bank.result.now a.items (node.Lam c.in-Lam.a c.in-Lam.m) c.args.t c.bank.ensures c.in-Lam.ensures.tree) c.abstraction.ensures.answer
 
-pub inference::infer-returns-in-App-clause-answer : goal.inference::infer-returns-in-App-clause-answer
-inference::infer-returns-in-App-clause-answer t c =
+pub inference::infer_part-returns-in-App-clause-answer : goal.inference::infer_part-returns-in-App-clause-answer
+inference::infer_part-returns-in-App-clause-answer t c =
     let a = c.args.theory.now in
     reads (env a) a.context c.args.nest c.args.asked (tree_at a.items c.args.t) (App (tree_at a.items c.in-App.f) (tree_at a.items c.in-App.u))
     (λ p. Infers a c.application.new.theory p c.args.t (account c.args.theory.now c.args.job.now) (account c.application.new.theory c.application.new.job) c.application.result) (omega arith)
     (node_tree c.bank.result.now a.items (node.App c.in-App.f c.in-App.u) c.args.t c.bank.ensures c.in-App.ensures.tree) c.application.ensures.answer
 
-pub inference::infer-returns-in-Const-clause-answer : goal.inference::infer-returns-in-Const-clause-answer
-inference::infer-returns-in-Const-clause-answer t c =
+pub inference::infer_part-returns-in-Const-clause-answer : goal.inference::infer_part-returns-in-Const-clause-answer
+inference::infer_part-returns-in-Const-clause-answer t c =
     let a = c.args.theory.now in
     reads (env a) a.context c.args.nest c.args.asked (tree_at a.items c.args.t) (Const c.in-Const.k (list_at a.items c.in-Const.us))
     (λ p. Infers a c.instance.new.theory p c.args.t (account c.args.theory.now c.args.job.now) (account c.instance.new.theory c.instance.new.job) c.instance.result) (omega arith)
     (node_tree c.bank.result.now a.items (node.Const c.in-Const.k c.in-Const.us) c.args.t c.bank.ensures c.in-Const.ensures.tree) c.instance.ensures.answer
 
 -- The sort of a term.
-pub inference::sort_of-returns-in_err-typed-clause-answer : goal.inference::sort_of-returns-in_err-typed-clause-answer
-inference::sort_of-returns-in_err-typed-clause-answer t c =
+pub inference::sort_of_part-returns-in_err-typed-clause-answer : goal.inference::sort_of_part-returns-in_err-typed-clause-answer
+inference::sort_of_part-returns-in_err-typed-clause-answer t c =
     let a = c.args.theory.now in
-    let b = c.infer.new.theory in
+    let b = c.infer_part.new.theory in
     let p = err_from_is_err_and c.from_residual.result c.from_residual.ensures.1 in
-    at_fault (λ r. InfersSort a b (SortOf (env a) a.context c.args.nest c.args.asked (tree_at a.items c.args.t)) c.args.t (account c.args.theory.now c.args.job.now) (account c.infer.new.theory c.infer.new.job) r) c.from_residual.result c.in_err-typed.field-0.0 p.0 p.1 p.2
-    (sort_stops (env a) (count a.context) (read_within (1001 - c.args.nest) (env a) a.context) c.args.asked b.items (tree_at a.items c.args.t) c.in_err-typed.field-0.0 (account c.args.theory.now c.args.job.now) (account c.infer.new.theory c.infer.new.job) c.in_err-typed.ensures.answer)
+    at_fault (λ r. InfersSort a b (SortOf (env a) a.context c.args.nest c.args.asked (tree_at a.items c.args.t)) c.args.t (account c.args.theory.now c.args.job.now) (account c.infer_part.new.theory c.infer_part.new.job) r) c.from_residual.result c.in_err-typed.field-0.0 p.0 p.1 p.2
+    (sort_stops (env a) (count a.context) (read_within (1001 - c.args.nest) (env a) a.context) c.args.asked b.items (tree_at a.items c.args.t) c.in_err-typed.field-0.0 (account c.args.theory.now c.args.job.now) (account c.infer_part.new.theory c.infer_part.new.job) c.in_err-typed.ensures.answer)
 
-pub inference::sort_of-returns-in-Star-clause-answer : goal.inference::sort_of-returns-in-Star-clause-answer
-inference::sort_of-returns-in-Star-clause-answer t c =
+pub inference::sort_of_part-returns-in-Star-clause-answer : goal.inference::sort_of_part-returns-in-Star-clause-answer
+inference::sort_of_part-returns-in-Star-clause-answer t c =
     let a = c.args.theory.now in
-    let b = c.infer.new.theory in
+    let b = c.infer_part.new.theory in
     let x = c.in_ok-typed.typed in
     let h = c.in_ok-typed.ensures.answer in
     let sort = sort_node b.items c.node.result x.of c.in-Star.is (node_item c.bank.result.now b.items c.node.result x.of c.bank.ensures c.node.ensures.tree) in
     record {
       has = record { term = h.term; sort = sort; judged = h.judged };
       gives = sort_given (env a) (count a.context) (read_within (1001 - c.args.nest) (env a) a.context) c.args.asked (tree_at a.items c.args.t) (tree_at b.items x.of) (is_some x.of_judge)
-          (account c.args.theory.now c.args.job.now) (account c.infer.new.theory c.infer.new.job) h.gives (sort_tested (tree_at b.items x.of) sort);
+          (account c.args.theory.now c.args.job.now) (account c.infer_part.new.theory c.infer_part.new.job) h.gives (sort_tested (tree_at b.items x.of) sort);
     }
 
-pub inference::sort_of-returns-in_default-clause-answer : goal.inference::sort_of-returns-in_default-clause-answer
-inference::sort_of-returns-in_default-clause-answer t c =
+pub inference::sort_of_part-returns-in_default-clause-answer : goal.inference::sort_of_part-returns-in_default-clause-answer
+inference::sort_of_part-returns-in_default-clause-answer t c =
     let a = c.args.theory.now in
-    let b = c.infer.new.theory in
+    let b = c.infer_part.new.theory in
     let x = c.in_ok-typed.typed in
     let h = c.in_ok-typed.ensures.answer in
-    sort_later a b c.exposed_sort.new.theory c.args.t x (account c.args.theory.now c.args.job.now) (account c.infer.new.theory c.infer.new.job) (account c.exposed_sort.new.theory c.exposed_sort.new.job) c.infer.ensures.continues c.requires.term.0 c.args.nest c.args.asked c.exposed_sort.result h
+    sort_later a b c.exposed_sort.new.theory c.args.t x (account c.args.theory.now c.args.job.now) (account c.infer_part.new.theory c.infer_part.new.job) (account c.exposed_sort.new.theory c.exposed_sort.new.job) c.infer_part.ensures.continues c.requires.term.0 c.args.nest c.args.asked c.exposed_sort.result h
     (no_sort_node b.items c.node.result x.of c.in_default.not-Star c.in_default.not-Box_ h.term (node_item c.bank.result.now b.items c.node.result x.of c.bank.ensures c.node.ensures.tree))
     c.exposed_sort.ensures.answer
 
@@ -133,26 +133,14 @@ pub inference::domain_sort-returns-in-Ok-clause-answer : goal.inference::domain_
 inference::domain_sort-returns-in-Ok-clause-answer t c = let h = c.in-Ok.ensures.answer in record { has = h.has; gives = gives_within Dom _ _ _ _ h.gives }
 
 pub inference::domain_sort-returns-in-Err-clause-answer : goal.inference::domain_sort-returns-in-Err-clause-answer
-inference::domain_sort-returns-in-Err-clause-answer t c = stops_within c.sort_of.new.theory.items Dom _ c.in-Err.fault c.within.result _ _ c.in-Err.ensures.answer c.within.ensures
+inference::domain_sort-returns-in-Err-clause-answer t c = stops_within c.sort_of_part.new.theory.items Dom _ c.in-Err.fault c.within.result _ _ c.in-Err.ensures.answer c.within.ensures
 
 -- Typing again.
-pub inference::type_again-returns-in-Ok-clause-answer : goal.inference::type_again-returns-in-Ok-clause-answer
-inference::type_again-returns-in-Ok-clause-answer t c =
+pub inference::type_again-returns-clause-answer : goal.inference::type_again-returns-clause-answer
+inference::type_again-returns-clause-answer t c =
     let a = c.args.theory.now in
-    let h = c.in-Ok.ensures.answer in
-    record {
-      has = h.has;
-      gives = again_given (env a) (count a.context) (part_reading c.args.nest (env a) a.context) c.args.asked (tree_at a.items c.args.t) (tree_at c.sort_of.new.theory.items c.in-Ok.sort.0)
-          (account c.args.theory.now c.args.job.now) (account c.args.theory.now (record c.args.job.now { budget = c.step.new.self })) (account c.sort_of.new.theory c.sort_of.new.job) (record { left = c.in_ok-step.ensures.ok.left; spent = c.in_ok-step.ensures.ok.spent }) refl h.gives;
-    }
-
-pub inference::type_again-returns-in-Err-clause-answer : goal.inference::type_again-returns-in-Err-clause-answer
-inference::type_again-returns-in-Err-clause-answer t c =
-    let a = c.args.theory.now in
-    let items = c.sort_of.new.theory.items in
-    let P : Trees → Type 0 = λ ctx. IsToldAs items (refusal c.args.asked (count ctx) Again) c.in-Err.fault c.refused_again.result in
-    again_stops (env a) (count a.context) (part_reading c.args.nest (env a) a.context) c.args.asked items (tree_at a.items c.args.t) c.in-Err.fault c.refused_again.result
-    (account c.args.theory.now c.args.job.now) (account c.args.theory.now (record c.args.job.now { budget = c.step.new.self })) (account c.sort_of.new.theory c.sort_of.new.job) (record { left = c.in_ok-step.ensures.ok.left; spent = c.in_ok-step.ensures.ok.spent }) refl c.in-Err.ensures.answer (subst P c.sort_of.ensures.continues.context (c.refused_again.ensures items))
+    typed_again a c.sort_of_part.new.theory c.args.nest c.args.asked c.args.t (account a c.args.job.now) (account a (record c.args.job.now { budget = c.step.new.self })) (account c.sort_of_part.new.theory c.sort_of_part.new.job)
+    (record { left = c.in_ok-step.ensures.ok.left; spent = c.in_ok-step.ensures.ok.spent }) refl c.sort_of_part.result c.sort_of_part.ensures.answer
 
 pub inference::sort_of_type-returns-in-Some-clause-answer : goal.inference::sort_of_type-returns-in-Some-clause-answer
 inference::sort_of_type-returns-in-Some-clause-answer t c =
@@ -177,27 +165,27 @@ function::function_type-returns-in-Err-clause-answer t c = stops_within c.produc
 pub function::product_type-returns-in_err-typed-clause-answer : goal.function::product_type-returns-in_err-typed-clause-answer
 function::product_type-returns-in_err-typed-clause-answer t c =
     let a = c.args.theory.now in
-    let b = c.infer.new.theory in
+    let b = c.infer_part.new.theory in
     let p = err_from_is_err_and c.from_residual.result c.from_residual.ensures.1 in
-    at_fault (λ r. InfersFunction a b (product_read (env a) (part_reading c.args.nest (env a)) a.context (tree_at a.items c.args.f)) c.args.f (account c.args.theory.now c.args.job.now) (account c.infer.new.theory c.infer.new.job) r)
+    at_fault (λ r. InfersFunction a b (product_read (env a) (part_reading c.args.nest (env a)) a.context (tree_at a.items c.args.f)) c.args.f (account c.args.theory.now c.args.job.now) (account c.infer_part.new.theory c.infer_part.new.job) r)
     c.from_residual.result c.in_err-typed.field-0.0 p.0 p.1 p.2
-    (product_read_stops (env a) (part_reading c.args.nest (env a)) a.context b.items (tree_at a.items c.args.f) c.in_err-typed.field-0.0 (account c.args.theory.now c.args.job.now) (account c.infer.new.theory c.infer.new.job) c.in_err-typed.ensures.answer)
+    (product_read_stops (env a) (part_reading c.args.nest (env a)) a.context b.items (tree_at a.items c.args.f) c.in_err-typed.field-0.0 (account c.args.theory.now c.args.job.now) (account c.infer_part.new.theory c.infer_part.new.job) c.in_err-typed.ensures.answer)
 
 pub function::product_type-returns-in-Pi-clause-answer : goal.function::product_type-returns-in-Pi-clause-answer
 function::product_type-returns-in-Pi-clause-answer t c =
-    let b = c.infer.new.theory in
+    let b = c.infer_part.new.theory in
     let P : List Item → Type 0 = λ xs. IsTermAt xs c.in-Pi.domain × IsTermAt xs c.in-Pi.range in
     let parts = subst P c.bank.ensures c.in-Pi.ensures.parts in
-    function_typed c.args.theory.now b c.args.nest c.args.f c.in_ok-typed.typed c.in-Pi.domain c.in-Pi.range (account c.args.theory.now c.args.job.now) (account c.infer.new.theory c.infer.new.job) c.in_ok-typed.ensures.answer parts.0 parts.1
+    function_typed c.args.theory.now b c.args.nest c.args.f c.in_ok-typed.typed c.in-Pi.domain c.in-Pi.range (account c.args.theory.now c.args.job.now) (account c.infer_part.new.theory c.infer_part.new.job) c.in_ok-typed.ensures.answer parts.0 parts.1
     (node_tree c.bank.result.now b.items (node.Pi c.in-Pi.domain c.in-Pi.range) c.in_ok-typed.typed.of c.bank.ensures c.in-Pi.ensures.tree)
 
 pub function::product_type-returns-in_default-clause-answer : goal.function::product_type-returns-in_default-clause-answer
 function::product_type-returns-in_default-clause-answer t c =
     let a = c.args.theory.now in
-    let b = c.infer.new.theory in
+    let b = c.infer_part.new.theory in
     let x = c.in_ok-typed.typed in
     let h = c.in_ok-typed.ensures.answer in
-    product_later a b c.exposed_product.new.theory c.args.f x (account c.args.theory.now c.args.job.now) (account c.infer.new.theory c.infer.new.job) (account c.exposed_product.new.theory c.exposed_product.new.job) c.infer.ensures.continues c.requires.term.0 c.args.nest c.exposed_product.result h
+    product_later a b c.exposed_product.new.theory c.args.f x (account c.args.theory.now c.args.job.now) (account c.infer_part.new.theory c.infer_part.new.job) (account c.exposed_product.new.theory c.exposed_product.new.job) c.infer_part.ensures.continues c.requires.term.0 c.args.nest c.exposed_product.result h
     (no_product_node b.items c.node.result x.of c.in_default.not-Pi h.term (node_item c.bank.result.now b.items c.node.result x.of c.bank.ensures c.node.ensures.tree))
     c.exposed_product.ensures.answer
 
@@ -274,39 +262,39 @@ argument::argument_judgement-returns-in-Err-clause-answer t c =
 pub argument::suited_judgement-returns-in_err-typed-clause-answer : goal.argument::suited_judgement-returns-in_err-typed-clause-answer
 argument::suited_judgement-returns-in_err-typed-clause-answer t c =
     let a = c.args.theory.now in
-    let b = c.infer.new.theory in
+    let b = c.infer_part.new.theory in
     let wanted = tree_at a.items c.args.wanted in
     let u = tree_at a.items c.args.u in
     let compare = Compares (env a) (c.args.nest + 1) in
     let read = part_reading c.args.nest (env a) a.context in
     let p = err_from_is_err_and c.from_residual.result c.from_residual.ensures.1 in
-    at_fault (λ r. Suits a b (suited_reading (env a) compare (count a.context) read c.args.asked wanted u) u wanted (account a c.args.job.now) (account b c.infer.new.job) r) c.from_residual.result c.in_err-typed.field-0.0 p.0 p.1 p.2
-    (suited_stops (env a) compare (count a.context) read b.items c.args.asked wanted u c.in_err-typed.field-0.0 (account a c.args.job.now) (account b c.infer.new.job) c.in_err-typed.ensures.answer)
+    at_fault (λ r. Suits a b (suited_reading (env a) compare (count a.context) read c.args.asked wanted u) u wanted (account a c.args.job.now) (account b c.infer_part.new.job) r) c.from_residual.result c.in_err-typed.field-0.0 p.0 p.1 p.2
+    (suited_stops (env a) compare (count a.context) read b.items c.args.asked wanted u c.in_err-typed.field-0.0 (account a c.args.job.now) (account b c.infer_part.new.job) c.in_err-typed.ensures.answer)
 
 pub argument::suited_judgement-returns-then-same-clause-answer : goal.argument::suited_judgement-returns-then-same-clause-answer
 argument::suited_judgement-returns-then-same-clause-answer t c =
     let a = c.args.theory.now in
-    let b = c.infer.new.theory in
+    let b = c.infer_part.new.theory in
     let P : List Item → Type 0 = λ xs. item_at xs c.in_ok-typed.typed.of ≡ item_at xs c.args.wanted in
     let same = subst P c.bank.ensures (c.same.ensures.0 c.if-same.true) in
-    suited_typed a b c.args.nest c.args.asked c.args.wanted c.args.u c.in_ok-typed.typed (account a c.args.job.now) (account b c.infer.new.job) c.in_ok-typed.ensures.answer
-    (ap tree same ∙ tree_stays a b c.args.wanted c.infer.ensures.continues c.requires.wanted.0)
+    suited_typed a b c.args.nest c.args.asked c.args.wanted c.args.u c.in_ok-typed.typed (account a c.args.job.now) (account b c.infer_part.new.job) c.in_ok-typed.ensures.answer
+    (ap tree same ∙ tree_stays a b c.args.wanted c.infer_part.ensures.continues c.requires.wanted.0)
 
 pub argument::suited_judgement-returns-clause-answer : goal.argument::suited_judgement-returns-clause-answer
 argument::suited_judgement-returns-clause-answer t c =
     let a = c.args.theory.now in
-    let b = c.infer.new.theory in
+    let b = c.infer_part.new.theory in
     let x = c.in_ok-typed.typed in
     let h = c.in_ok-typed.ensures.answer in
     let P : List Item → Type 0 = λ xs. item_at xs x.of ≡ item_at xs c.args.wanted in
-    let there = term_stays a b c.args.wanted c.infer.ensures.continues c.requires.wanted.0 in
+    let there = term_stays a b c.args.wanted c.infer_part.ensures.continues c.requires.wanted.0 in
     let other : tree_at b.items x.of ≡ tree_at b.items c.args.wanted → ⊥ = λ e.
     false≢true (c.if-same.ensures.1 (subst P (sym c.bank.ensures) (same_items (item_at b.items x.of) (item_at b.items c.args.wanted) h.term.form there.form e))) in
-    suited_compared a b c.compared_judgement.new.theory c.args.nest c.args.asked c.args.wanted c.args.u x (account a c.args.job.now) (account b c.infer.new.job)
-    (account c.compared_judgement.new.theory c.compared_judgement.new.job) c.infer.ensures.continues c.requires.term.0 c.requires.wanted.0 h other c.compared_judgement.result c.compared_judgement.ensures.answer
+    suited_compared a b c.compared_judgement.new.theory c.args.nest c.args.asked c.args.wanted c.args.u x (account a c.args.job.now) (account b c.infer_part.new.job)
+    (account c.compared_judgement.new.theory c.compared_judgement.new.job) c.infer_part.ensures.continues c.requires.term.0 c.requires.wanted.0 h other c.compared_judgement.result c.compared_judgement.ensures.answer
 
 pub argument::suited_judgement-returns-clause-continues : goal.argument::suited_judgement-returns-clause-continues
-argument::suited_judgement-returns-clause-continues t c = continues_trans c.args.theory.now c.infer.new.theory c.compared_judgement.new.theory c.infer.ensures.continues c.compared_judgement.ensures.continues
+argument::suited_judgement-returns-clause-continues t c = continues_trans c.args.theory.now c.infer_part.new.theory c.compared_judgement.new.theory c.infer_part.ensures.continues c.compared_judgement.ensures.continues
 
 pub argument::compared_judgement-returns-in_err-compared-clause-answer : goal.argument::compared_judgement-returns-in_err-compared-clause-answer
 argument::compared_judgement-returns-in_err-compared-clause-answer t c =
@@ -327,7 +315,7 @@ argument::compared_judgement-returns-in_err-sort-in-Same-clause-answer t c =
     let p = err_from_is_err_and c.from_residual-in_err-sort-in-Same.result c.from_residual-in_err-sort-in-Same.ensures.1 in
     at_fault (λ r. Suits a d (suits (env a) (Compares (env a) (c.args.nest + 1)) (count a.context) (part_reading c.args.nest (env a) a.context) false c.args.asked type wanted) (tree_at a.items c.args.u) wanted
     (account a c.args.job.now) (account d c.type_again.new.job) r) c.from_residual-in_err-sort-in-Same.result c.in_err-sort-in-Same.field-0.0 p.0 p.1 p.2
-    (compared_refused_again a b c.args.nest c.args.asked type c.args.wanted (account a c.args.job.now) (account b c.compare.new.job) c.compare.ensures.continues c.requires.wanted.0 d c.in_err-sort-in-Same.field-0.0
+    (compared_stopped_again a b c.args.nest c.args.asked type c.args.wanted (account a c.args.job.now) (account b c.compare.new.job) c.compare.ensures.continues c.requires.wanted.0 d c.in_err-sort-in-Same.field-0.0
     (account d c.type_again.new.job) same.0 c.in_err-sort-in-Same.ensures.answer)
 
 pub argument::compared_judgement-conclude-requires-clause-follows : goal.argument::compared_judgement-conclude-requires-clause-follows
@@ -476,34 +464,34 @@ inference::application-returns-clause-continues t c =
 pub inference::body_type-returns-in-Err-clause-answer : goal.inference::body_type-returns-in-Err-clause-answer
 inference::body_type-returns-in-Err-clause-answer t c ctx y inner =
     let a = c.args.theory.now in
-    let items = c.infer.new.theory.items in
-    let P : Trees → Type 0 = λ Γ. Stops items (Types (env a) Γ (c.args.nest + 1) (rule.Abst, 1) (tree_at a.items c.args.m)) c.in-Err.fault (account c.args.theory.now c.args.job.now) (account c.infer.new.theory c.infer.new.job) in
-    body_stops (env a) (part_reading c.args.nest (env a)) ctx items y (tree_at a.items c.args.m) c.in-Err.fault c.within.result (account c.args.theory.now c.args.job.now) (account c.infer.new.theory c.infer.new.job) (subst P inner c.in-Err.ensures.answer) c.within.ensures
+    let items = c.infer_part.new.theory.items in
+    let P : Trees → Type 0 = λ Γ. Stops items (Types (env a) Γ (c.args.nest + 1) (rule.Abst, 1) (tree_at a.items c.args.m)) c.in-Err.fault (account c.args.theory.now c.args.job.now) (account c.infer_part.new.theory c.infer_part.new.job) in
+    body_stops (env a) (part_reading c.args.nest (env a)) ctx items y (tree_at a.items c.args.m) c.in-Err.fault c.within.result (account c.args.theory.now c.args.job.now) (account c.infer_part.new.theory c.infer_part.new.job) (subst P inner c.in-Err.ensures.answer) c.within.ensures
 
 pub inference::body_type-returns-in-Box_-clause-answer : goal.inference::body_type-returns-in-Box_-clause-answer
 inference::body_type-returns-in-Box_-clause-answer t c ctx y inner =
     let a = c.args.theory.now in
-    let b = c.infer.new.theory in
+    let b = c.infer_part.new.theory in
     let x = c.in-Ok.typed in
     let h = c.in-Ok.ensures.answer in
-    let P : Trees → Type 0 = λ Γ. Comes (Types (env a) Γ (c.args.nest + 1) (rule.Abst, 1) (tree_at a.items c.args.m)) (Gives (found (tree_at b.items x.of) (is_some x.of_judge))) (account c.args.theory.now c.args.job.now) (account c.infer.new.theory c.infer.new.job) in
+    let P : Trees → Type 0 = λ Γ. Comes (Types (env a) Γ (c.args.nest + 1) (rule.Abst, 1) (tree_at a.items c.args.m)) (Gives (found (tree_at b.items x.of) (is_some x.of_judge))) (account c.args.theory.now c.args.job.now) (account c.infer_part.new.theory c.infer_part.new.job) in
     let Q : ℕ → Type 0 = λ n. IsRefusedBy b.items (refusal (rule.Abst, 2) n BoxBody) c.box_body.result in
-    body_box (env a) (part_reading c.args.nest (env a)) ctx b.items y (tree_at a.items c.args.m) (tree_at b.items x.of) (is_some x.of_judge) c.box_body.result (account c.args.theory.now c.args.job.now) (account c.infer.new.theory c.infer.new.job) (subst P inner h.gives)
-    (node_tree c.bank.result.now b.items node.Box_ x.of c.bank.ensures c.in-Box_.ensures.tree) (subst Q (omega (arith, ap count (c.infer.ensures.continues.context ∙ inner))) (c.box_body.ensures b.items))
+    body_box (env a) (part_reading c.args.nest (env a)) ctx b.items y (tree_at a.items c.args.m) (tree_at b.items x.of) (is_some x.of_judge) c.box_body.result (account c.args.theory.now c.args.job.now) (account c.infer_part.new.theory c.infer_part.new.job) (subst P inner h.gives)
+    (node_tree c.bank.result.now b.items node.Box_ x.of c.bank.ensures c.in-Box_.ensures.tree) (subst Q (omega (arith, ap count (c.infer_part.ensures.continues.context ∙ inner))) (c.box_body.ensures b.items))
 
 pub inference::body_type-sort_of_type-requires : goal.inference::body_type-sort_of_type-requires
 inference::body_type-sort_of_type-requires t c =
     let a = c.args.theory.now in
-    let b = c.infer.new.theory in
+    let b = c.infer_part.new.theory in
     let x = c.in-Ok.typed in
     let h = c.in-Ok.ensures.answer in
-    let formed = type_well_formed a b x.judge (tree_at a.items c.args.m) (tree_at b.items x.of) c.infer.ensures.continues c.keeps_well_formed.ensures h.judged in
-    (search rules, ((h.term, formed), (h.sorted, (c.requires.nest, (omega (arith, c.requires.room, ap count c.infer.ensures.continues.context), c.infer.ensures.pairs)))))
+    let formed = type_well_formed a b x.judge (tree_at a.items c.args.m) (tree_at b.items x.of) c.infer_part.ensures.continues c.keeps_well_formed.ensures h.judged in
+    (search rules, ((h.term, formed), (h.sorted, (c.requires.nest, (omega (arith, c.requires.room, ap count c.infer_part.ensures.continues.context), c.infer_part.ensures.pairs)))))
 
 pub inference::body_type-returns-in_err-sort : goal.inference::body_type-returns-in_err-sort
 inference::body_type-returns-in_err-sort t c =
     let a = c.args.theory.now in
-    let b = c.infer.new.theory in
+    let b = c.infer_part.new.theory in
     let z = c.sort_of_type.new.theory in
     let x = c.in-Ok.typed in
     let h = c.in-Ok.ensures.answer in
@@ -513,26 +501,26 @@ inference::body_type-returns-in_err-sort t c =
     record {
       answer = λ ctx y inner.
           at_fault (λ r. InfersBody a z (body_reading (env a) (part_reading c.args.nest (env a)) ctx y (tree_at a.items c.args.m)) c.args.m (account c.args.theory.now c.args.job.now) (account c.sort_of_type.new.theory c.sort_of_type.new.job) r) c.from_residual.result f p.0 p.1 p.2
-          (body_refused a b z c.args.nest c.args.m x f (account c.args.theory.now c.args.job.now) (account c.infer.new.theory c.infer.new.job) (account c.sort_of_type.new.theory c.sort_of_type.new.job) ctx y inner c.infer.ensures.continues h other c.in_err-sort.ensures.answer);
-      continues = continues_trans a b z c.infer.ensures.continues c.sort_of_type.ensures.continues;
+          (body_refused a b z c.args.nest c.args.m x f (account c.args.theory.now c.args.job.now) (account c.infer_part.new.theory c.infer_part.new.job) (account c.sort_of_type.new.theory c.sort_of_type.new.job) ctx y inner c.infer_part.ensures.continues h other c.in_err-sort.ensures.answer);
+      continues = continues_trans a b z c.infer_part.ensures.continues c.sort_of_type.ensures.continues;
       pairs = c.sort_of_type.ensures.pairs;
-      most = omega (arith, c.infer.ensures.most, c.sort_of_type.ensures.most);
+      most = omega (arith, c.infer_part.ensures.most, c.sort_of_type.ensures.most);
     }
 
 pub inference::body_type-returns : goal.inference::body_type-returns
 inference::body_type-returns t c =
     let a = c.args.theory.now in
-    let b = c.infer.new.theory in
+    let b = c.infer_part.new.theory in
     let z = c.sort_of_type.new.theory in
     let x = c.in-Ok.typed in
     let h = c.in-Ok.ensures.answer in
     let other = no_box_node b.items c.node.result x.of c.in_default.not-Box_ h.term (node_item c.bank.result.now b.items c.node.result x.of c.bank.ensures c.node.ensures.tree) in
     record {
       answer = λ ctx y inner.
-          body_typed a b z c.args.nest c.args.m x c.in_ok-sort.sort (account c.args.theory.now c.args.job.now) (account c.infer.new.theory c.infer.new.job) (account c.sort_of_type.new.theory c.sort_of_type.new.job) ctx y inner c.infer.ensures.continues c.sort_of_type.ensures.continues h other c.in_ok-sort.ensures.answer;
-      continues = continues_trans a b z c.infer.ensures.continues c.sort_of_type.ensures.continues;
+          body_typed a b z c.args.nest c.args.m x c.in_ok-sort.sort (account c.args.theory.now c.args.job.now) (account c.infer_part.new.theory c.infer_part.new.job) (account c.sort_of_type.new.theory c.sort_of_type.new.job) ctx y inner c.infer_part.ensures.continues c.sort_of_type.ensures.continues h other c.in_ok-sort.ensures.answer;
+      continues = continues_trans a b z c.infer_part.ensures.continues c.sort_of_type.ensures.continues;
       pairs = c.sort_of_type.ensures.pairs;
-      most = omega (arith, c.infer.ensures.most, c.sort_of_type.ensures.most);
+      most = omega (arith, c.infer_part.ensures.most, c.sort_of_type.ensures.most);
     }
 
 -- Products.
@@ -554,12 +542,12 @@ inference::product-returns-in-Err-clause-answer t c =
     let a = c.args.theory.now in
     let b = c.domain_sort.new.theory in
     let i = c.enter.new.self in
-    let e = c.sort_of-range.new.theory in
+    let e = c.sort_of_part-range.new.theory in
     let d = c.leave.new.self in
     let x = c.args.a in
     let one = c.domain_sort.new.job in
-    let two = c.sort_of-range.new.job in
-    let h : IsAround a b i e d x = record { domain = c.domain_sort.ensures.continues; enters = c.in_ok-enter.ensures.ok; inside = c.sort_of-range.ensures.continues; leaves = c.leave.ensures } in
+    let two = c.sort_of_part-range.new.job in
+    let h : IsAround a b i e d x = record { domain = c.domain_sort.ensures.continues; enters = c.in_ok-enter.ensures.ok; inside = c.sort_of_part-range.ensures.continues; leaves = c.leave.ensures } in
     let Ran : Account → Type 0 = λ w. Stops e.items (SortOf (env i) i.context (c.args.nest + 1) (rule.Form, 2) (tree_at i.items c.args.b)) c.in-Err.fault w (account e two) in
     let Whole : Account → Type 0 = λ w. Stops d.items (product_reading (env a) (part_reading c.args.nest (env a)) a.context (tree_at a.items x) (tree_at a.items c.args.b)) c.within.result (account a c.args.job.now) w in
     subst Whole (sym (outer_account a b i e d x h c.requires.parts.0 two))
@@ -568,21 +556,21 @@ inference::product-returns-in-Err-clause-answer t c =
 
 pub inference::product-returns-in-Err-clause-continues : goal.inference::product-returns-in-Err-clause-continues
 inference::product-returns-in-Err-clause-continues t c =
-    around c.args.theory.now c.domain_sort.new.theory c.enter.new.self c.sort_of-range.new.theory c.leave.new.self c.args.a
-    (record { domain = c.domain_sort.ensures.continues; enters = c.in_ok-enter.ensures.ok; inside = c.sort_of-range.ensures.continues; leaves = c.leave.ensures }) c.requires.parts.0
+    around c.args.theory.now c.domain_sort.new.theory c.enter.new.self c.sort_of_part-range.new.theory c.leave.new.self c.args.a
+    (record { domain = c.domain_sort.ensures.continues; enters = c.in_ok-enter.ensures.ok; inside = c.sort_of_part-range.ensures.continues; leaves = c.leave.ensures }) c.requires.parts.0
 
 pub inference::product-returns-in_err-judge-clause-continues : goal.inference::product-returns-in_err-judge-clause-continues
 inference::product-returns-in_err-judge-clause-continues t c =
     continues_trans c.args.theory.now c.leave.new.self c.conclude.new.self
-    (around c.args.theory.now c.domain_sort.new.theory c.enter.new.self c.sort_of-range.new.theory c.leave.new.self c.args.a
-    (record { domain = c.domain_sort.ensures.continues; enters = c.in_ok-enter.ensures.ok; inside = c.sort_of-range.ensures.continues; leaves = c.leave.ensures }) c.requires.parts.0) c.conclude.ensures.continues
+    (around c.args.theory.now c.domain_sort.new.theory c.enter.new.self c.sort_of_part-range.new.theory c.leave.new.self c.args.a
+    (record { domain = c.domain_sort.ensures.continues; enters = c.in_ok-enter.ensures.ok; inside = c.sort_of_part-range.ensures.continues; leaves = c.leave.ensures }) c.requires.parts.0) c.conclude.ensures.continues
 
 pub inference::product-returns-in_err-of_judge-clause-continues : goal.inference::product-returns-in_err-of_judge-clause-continues
 inference::product-returns-in_err-of_judge-clause-continues t c =
     continues_trans c.args.theory.now c.conclude.new.self c.sort_of_sort.new.theory
     (continues_trans c.args.theory.now c.leave.new.self c.conclude.new.self
-    (around c.args.theory.now c.domain_sort.new.theory c.enter.new.self c.sort_of-range.new.theory c.leave.new.self c.args.a
-    (record { domain = c.domain_sort.ensures.continues; enters = c.in_ok-enter.ensures.ok; inside = c.sort_of-range.ensures.continues; leaves = c.leave.ensures }) c.requires.parts.0) c.conclude.ensures.continues)
+    (around c.args.theory.now c.domain_sort.new.theory c.enter.new.self c.sort_of_part-range.new.theory c.leave.new.self c.args.a
+    (record { domain = c.domain_sort.ensures.continues; enters = c.in_ok-enter.ensures.ok; inside = c.sort_of_part-range.ensures.continues; leaves = c.leave.ensures }) c.requires.parts.0) c.conclude.ensures.continues)
     c.sort_of_sort.ensures.continues
 
 pub inference::product-returns-clause-answer : goal.inference::product-returns-clause-answer
@@ -590,18 +578,18 @@ inference::product-returns-clause-answer t c =
     let a = c.args.theory.now in
     let b = c.domain_sort.new.theory in
     let i = c.enter.new.self in
-    let e = c.sort_of-range.new.theory in
+    let e = c.sort_of_part-range.new.theory in
     let d = c.leave.new.self in
     let z = c.sort_of_sort.new.theory in
     let x = c.args.a in
     let one = c.domain_sort.new.job in
-    let two = c.sort_of-range.new.job in
-    let h : IsAround a b i e d x = record { domain = c.domain_sort.ensures.continues; enters = c.in_ok-enter.ensures.ok; inside = c.sort_of-range.ensures.continues; leaves = c.leave.ensures } in
+    let two = c.sort_of_part-range.new.job in
+    let h : IsAround a b i e d x = record { domain = c.domain_sort.ensures.continues; enters = c.in_ok-enter.ensures.ok; inside = c.sort_of_part-range.ensures.continues; leaves = c.leave.ensures } in
     let Ran : Account → Type 0 = λ w. IsSorted i e (SortOf (env i) i.context (c.args.nest + 1) (rule.Form, 2) (tree_at i.items c.args.b)) c.args.b w (account e two) c.in-Ok.range in
     told_outside a b i e d x h c.requires.parts.0 z two
     (λ w. IsTyped a z (product_reading (env a) (part_reading c.args.nest (env a)) a.context (tree_at a.items x) (tree_at a.items c.args.b)) c.args.t (account a c.args.job.now) w
     (record { of = c.in-Ok.range.0; judge = c.in_ok-judge.judge; of_judge = c.in_ok-of_judge.of_judge }))
-    (continues_trans d c.conclude.new.self z c.conclude.ensures.continues c.sort_of_sort.ensures.continues) c.sort_of-range.ensures.pairs
+    (continues_trans d c.conclude.new.self z c.conclude.ensures.continues c.sort_of_sort.ensures.continues) c.sort_of_part-range.ensures.pairs
     (product_typed a b i e d x h c.requires.parts.0 c.conclude.new.self z c.args.nest c.args.t c.args.b c.in_ok-domain.domain c.in-Ok.range c.in_ok-judge.judge
     c.in_ok-of_judge.of_judge (account a c.args.job.now) (account b one) (account e two) c.requires.term.0 c.requires.parts.1 c.in_ok-domain.ensures.answer
     (subst Ran (inner_account a b i e d x h c.requires.parts.0 one c.domain_sort.ensures.pairs) c.in-Ok.ensures.answer) c.conclude.ensures.continues
@@ -611,8 +599,8 @@ pub inference::product-returns-clause-continues : goal.inference::product-return
 inference::product-returns-clause-continues t c =
     continues_trans c.args.theory.now c.conclude.new.self c.sort_of_sort.new.theory
     (continues_trans c.args.theory.now c.leave.new.self c.conclude.new.self
-    (around c.args.theory.now c.domain_sort.new.theory c.enter.new.self c.sort_of-range.new.theory c.leave.new.self c.args.a
-    (record { domain = c.domain_sort.ensures.continues; enters = c.in_ok-enter.ensures.ok; inside = c.sort_of-range.ensures.continues; leaves = c.leave.ensures }) c.requires.parts.0) c.conclude.ensures.continues)
+    (around c.args.theory.now c.domain_sort.new.theory c.enter.new.self c.sort_of_part-range.new.theory c.leave.new.self c.args.a
+    (record { domain = c.domain_sort.ensures.continues; enters = c.in_ok-enter.ensures.ok; inside = c.sort_of_part-range.ensures.continues; leaves = c.leave.ensures }) c.requires.parts.0) c.conclude.ensures.continues)
     c.sort_of_sort.ensures.continues
 
 -- Abstractions.

@@ -5,11 +5,11 @@ use Rattle.ld_infer.specs.Standing.{env, account, KnowsPairs}
 use Rattle.ld_infer.proofs.Judging.{AreBegun}
 use Rattle.ld_infer.proofs.+infer.Given as goal
 
-abbrev pub decreases-inference::infer : goal.decreases-inference::infer
-decreases-inference::infer l = 10 * (1001 - l.nest) + 8
+abbrev pub decreases-inference::infer_part : goal.decreases-inference::infer_part
+decreases-inference::infer_part l = 10 * (1001 - l.nest) + 8
 
-abbrev pub decreases-inference::sort_of : goal.decreases-inference::sort_of
-decreases-inference::sort_of l = 10 * (1001 - l.nest) + 9
+abbrev pub decreases-inference::sort_of_part : goal.decreases-inference::sort_of_part
+decreases-inference::sort_of_part l = 10 * (1001 - l.nest) + 9
 
 abbrev pub decreases-inference::type_again : goal.decreases-inference::type_again
 decreases-inference::type_again l = 10 * (1001 - l.nest) + 1
