@@ -7,3 +7,4 @@ pub mod Flags
 pub mod Names
 pub mod Once
 pub mod Rightness
+pub mod Refused

@@ -2,15 +2,18 @@
 //! *Type Theory and Formal Proof*, chapters 8 to 11).
 #![tactic(auto)]
 
-ghost use Rattle.std.specs.Prelude.{◌≡◌, ◌<◌, ◌≤◌, ◌+◌, ◌-◌, ◌^◌, ◌↔◌, List, length, Contains, IsTrue, true, false, IfOk, OnErr};
+ghost use Rattle.std.specs.Prelude.{◌≡◌, ◌<◌, ◌≤◌, ◌+◌, ◌-◌, ◌^◌, ◌↔◌, List, length, Contains, IsTrue, true, false, Err, IfOk, OnErr};
 ghost use Rattle.ld_terms.specs.Tree.{Trees, count};
 ghost use Rattle.ld_terms.specs.Tests.{is_box};
 ghost use Rattle.ld_terms.specs.Entry.{IsFresh};
 ghost use Rattle.ld_terms.specs.Item.{Item};
 ghost use Rattle.ld_terms.specs.Bank.{tree_at, IsTermAt};
+ghost use Rattle.ld_terms.specs.Derivable.{Derivable};
 ghost use Rattle.ld_record.specs.Growth.{Knows};
 ghost use Rattle.ld_infer.specs.Standing.{known, env, here, account, Continues, Goes, AddsEntry, AddsFlag, KnowsSort, KnowsPairs, without};
 ghost use Rattle.ld_infer.specs.Infers.{IsReadable, Infers};
+ghost use Rattle.ld_infer.specs.Refusals.{HasNoSort};
+ghost use Rattle.ld_defrules.specs.declared.ItemFault.TheVariants.{Refused};
 ghost use Rattle.ld_defrules.specs.Judged.{Judges, flag_judged, primitive_judged, type_judged, body_judged, line_judged, primitive_of, line_of, same_as_stated, has_box, SortsType, TypesLine, BodyTypes, IsOtherType};
 ghost use Rattle.ld_env.specs.Named.{names_of};
 
@@ -63,10 +66,13 @@ pub fn open_flag(
     requires pairs { KnowsPairs theory.old job.old.known }
     ensures judges { Judges theory.new.items (flag_judged (env theory.old) theory.old.context (tree_at theory.old.items of))
         ⊥ (AddsFlag theory.old theory.new (tree_at theory.old.items of)) (account theory.old job.old) (account theory.new job.new) result }
+    ensures refused { (f : Failure) → result ≡ Err (Refused f) → HasNoSort (env theory.old) theory.old.context (tree_at theory.old.items of) }
     ensures goes { Goes theory.old theory.new }
     ensures err { OnErr result (Continues theory.old theory.new) }
     ensures most { job.new.budget.left ≤ job.old.budget.left }
 {
+    theory.keeps_legal();
+    theory.keeps_convertible(job);
     let judge = type_sort(alloc, theory, RuleName::Weak, of, job)?;
     match theory.open_flag(of, judge) {
         Ok(()) => Ok(()),
@@ -103,6 +109,7 @@ pub fn primitive(
     ensures judges { Judges theory.new.items (primitive_judged (env theory.old) theory.old.context (tree_at theory.old.items of))
         (Contains (names_of theory.old.entries) name.now)
         (AddsEntry theory.old theory.new (primitive_of name.now theory.old.context (tree_at theory.old.items of))) (account theory.old job.old) (account theory.new job.new) result }
+    ensures refused { (f : Failure) → result ≡ Err (Refused f) → HasNoSort (env theory.old) theory.old.context (tree_at theory.old.items of) }
     ensures number { IfOk result (λ k. k ≡ length (env theory.old)) }
     ensures taken { (result ≡ Err ItemFault.NameTaken) ↔ Contains (names_of theory.old.entries) name.now }
     ensures goes { Goes theory.old theory.new }
@@ -112,6 +119,8 @@ pub fn primitive(
     if is_taken(theory, name) {
         return Err(ItemFault::NameTaken);
     }
+    theory.keeps_legal();
+    theory.keeps_convertible(job);
     let judge = type_sort(alloc, theory, RuleName::DefPrim, of, job)?;
     match theory.keep_primitive(alloc, name, of, judge) {
         Ok(number) => Ok(number),
@@ -140,6 +149,7 @@ pub fn define(
     ensures judges { Judges theory.new.items (line_judged (env theory.old) theory.old.context (tree_at theory.old.items body) (tree_at theory.old.items of))
         (Contains (names_of theory.old.entries) name.now)
         (AddsEntry theory.old theory.new (line_of name.now theory.old.context (tree_at theory.old.items body) (tree_at theory.old.items of))) (account theory.old job.old) (account theory.new job.new) result }
+    ensures refused { (f : Failure) → result ≡ Err (Refused f) → ¬ Derivable (env theory.old) theory.old.context (tree_at theory.old.items body) (tree_at theory.old.items of) }
     ensures number { IfOk result (λ k. k ≡ length (env theory.old)) }
     ensures taken { (result ≡ Err ItemFault.NameTaken) ↔ Contains (names_of theory.old.entries) name.now }
     ensures goes { Goes theory.old theory.new }
@@ -149,6 +159,8 @@ pub fn define(
     if is_taken(theory, name) {
         return Err(ItemFault::NameTaken);
     }
+    theory.keeps_legal();
+    theory.keeps_convertible(job);
     let judge = line_judgement(alloc, theory, body, of, job)?;
     match theory.keep_line(alloc, name, body, of, judge) {
         Ok(number) => Ok(number),

@@ -9,6 +9,7 @@ use Rattle.ld_defrules.specs.Judged.{type_judged, flag_judged}
 use Rattle.ld_defrules.proofs.Faults.{item_stops_first, judges_stop}
 use Rattle.ld_defrules.proofs.Going.{adds_flag_after, continues_trans}
 use Rattle.ld_defrules.proofs.Lines.{asked}
+use Rattle.ld_defrules.proofs.Refused.{flag_refused}
 use Rattle.ld_defrules.proofs.open_flag.Goals as goal
 
 pub returns-in_err-judge-clause-judges : goal.returns-in_err-judge-clause-judges
@@ -20,6 +21,17 @@ returns-in_err-judge-clause-judges c =
     let of = tree_at old.items c.args.of in
     rw (p.1, p.2)
     (judges_stop (Unit {0}) new.items (flag_judged (env old) old.context of) ⊥ (AddsFlag old new of) fault _ _
+    (item_stops_first new.items (type_judged (env old) old.context Weak of) (λ _. gives tt) fault _ _ c.in_err-judge.ensures.answer))
+
+pub returns-in_err-judge-clause-refused : goal.returns-in_err-judge-clause-refused
+returns-in_err-judge-clause-refused c =
+    let p = err_from_is_err_and c.from_residual.result c.from_residual.ensures.1 in
+    let old = c.args.theory.now in
+    let new = c.type_sort.new.theory in
+    let fault = c.in_err-judge.field-0.0 in
+    let of = tree_at old.items c.args.of in
+    rw (p.1, p.2)
+    (flag_refused (env old) old.context c.keeps_legal.ensures new.items (account old c.args.job.now) (account new c.type_sort.new.job) c.keeps_convertible.ensures (Unit {0}) of fault
     (item_stops_first new.items (type_judged (env old) old.context Weak of) (λ _. gives tt) fault _ _ c.in_err-judge.ensures.answer))
 
 pub returns-in-Ok-clause-judges : goal.returns-in-Ok-clause-judges
