@@ -25,3 +25,4 @@ pub mod Complete
 pub mod OneVerdict
 pub mod Rightness
 pub mod Growing
+pub mod Underivable

@@ -1,4 +1,4 @@
--- An item that is accepted has a derivation, and one that a rule refuses has none.
+-- An item that is accepted has a derivation, and one that a rule refuses has none, for the reason that is said.
 use Rattle.std.proofs.Common.{◌≡◌, ℕ, zero, suc, ◌-◌, Bool, true, false, nat_lt, if◌then◌else◌, [], length, position, Option, Some, None, Result, Ok, Err, refl, ap, subst, ◌∙◌}
 use Rattle.std.specs.Prelude.{⊤}
 use Rattle.std.specs.Str.{bytes_eq}
@@ -8,8 +8,9 @@ use Rattle.ld_terms.specs.Derivable.{IsLegalContext}
 use Rattle.ld_laws.proofs.LegalContexts.{legal_of, last_of}
 use Rattle.ld_reduce.specs.Task.{Gives, Fails, High, Nested, Pairs}
 use Rattle.ld_infer.specs.Reading.{Refusal}
+use Rattle.ld_infer.specs.Refusals.{HoldsAt}
 use Rattle.ld_infer.specs.Standing.{without}
-use Rattle.ld_defrules.proofs.Rightness.{judging_right}
+use Rattle.ld_defrules.proofs.Rightness.{judging_right, reasons_hold}
 use Rattle.fb_base.specs.declared.places.Span.{Span}
 use Rattle.fb_parse.specs.Items.{SurfaceItem, SurfaceKind}
 use Rattle.fb_parse.specs.Items as item
@@ -20,7 +21,7 @@ use Rattle.book_top.specs.declared.status.TextFault.{TextFault}
 use Rattle.book_top.specs.Book.{Book, Reading, Flag, Prim, Line, names_of, closed}
 use Rattle.book_top.specs.Names.{reading_of, ◌>>=◌}
 use Rattle.book_top.specs.Verdict.{Verdict, Accepted, TextRefused, ManyFlags, TooHigh, RuleRefused, StopsHigh, StopsNested, Verdicts, unread, high, judged, text_refused, at_depth, flag_free, entry_free, name_free, read_here, read_item, judging}
-use Rattle.book_top.specs.Rightness.{IsLegalBook, HasDerivation, HasNoDerivation, IsDerivable, IsUnderivable, VerdictDerivable, RefusedUnderivable}
+use Rattle.book_top.specs.Rightness.{IsLegalBook, HasDerivation, HasNoDerivation, PartOfItem, IsDerivable, IsUnderivable, VerdictDerivable, RefusedUnderivable}
 
 -- a context stays legal without its last variables
 without_legal : {env : Env} (n : ℕ) (ctx : Trees) → IsLegalContext env ctx → IsLegalContext env (without n ctx)
@@ -92,6 +93,11 @@ fails_derivation b (Flag type) L f n legal h = judging_right.refused.flags b.env
 fails_derivation b (Prim type) L f n legal h = judging_right.refused.primitives b.env b.context type [] L f n legal tt h
 fails_derivation b (Line body type) L f n legal h = judging_right.refused.lines b.env b.context body type [] L f n legal tt h
 
+fails_reason : (b : Book) (r : Reading) (L : Pairs) (f : Refusal) (n : ℕ) → IsLegalBook b → judging b r [] (Fails f) L n → HoldsAt b.env (PartOfItem b.context r) f
+fails_reason b (Flag type) L f n legal h = reasons_hold.flags b.env b.context type [] L f n legal tt h
+fails_reason b (Prim type) L f n legal h = reasons_hold.primitives b.env b.context type [] L f n legal tt h
+fails_reason b (Line body type) L f n legal h = reasons_hold.lines b.env b.context body type [] L f n legal tt h
+
 module _ (b : Book) (i : SurfaceItem) (legal : IsLegalBook b) where
   accepted_by : {v : Verdict} {n : ℕ} → Verdicts b i v n → v ≡ Accepted → IsDerivable b i
   accepted_by (unread e) p = absurd (subst OnlyText (e ∙ ap Err p) (read_text b i))
@@ -102,12 +108,19 @@ module _ (b : Book) (i : SurfaceItem) (legal : IsLegalBook b) where
   accepted_by (judged High known e small h) p = absurd (cc)
   accepted_by (judged Nested known e small h) p = absurd (cc)
 
-  refused_by : {v : Verdict} {n : ℕ} (f : Refusal) → Verdicts b i v n → v ≡ RuleRefused f → IsUnderivable b i
+  refused_by : {v : Verdict} {n : ℕ} (f : Refusal) → Verdicts b i v n → v ≡ RuleRefused f → IsUnderivable b i f
   refused_by f (unread e) p = absurd (subst OnlyText (e ∙ ap Err p) (read_text b i))
   refused_by f (high e big) p = absurd (cc)
   refused_by f (judged (Gives x) known e small h) p = absurd (cc)
   refused_by f (judged {r = r} (Fails g) known {n = n} e small h) p =
-      record { reading = r; read = e; none = fails_derivation (closed i.bars b) r known g n (closed_legal i.bars b legal) h }
+      let there = closed_legal i.bars b legal in
+      let same : g ≡ f = cc in
+      record {
+        reading = r;
+        read = e;
+        none = fails_derivation (closed i.bars b) r known g n there h;
+        because = subst (HoldsAt b.env (PartOfItem (closed i.bars b).context r)) same (fails_reason (closed i.bars b) r known g n there h);
+      }
   refused_by f (judged High known e small h) p = absurd (cc)
   refused_by f (judged Nested known e small h) p = absurd (cc)
 

@@ -19,3 +19,4 @@ pub mod Complete
 pub mod Laws
 pub mod Rightness
 pub mod Growing
+pub mod Refused

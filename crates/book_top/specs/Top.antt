@@ -83,7 +83,6 @@ why_of (rule.NotSort t) = why.NotSort
 why_of (rule.NotFunction t) = why.NotFunction
 why_of rule.BoxBody = why.BoxBody
 why_of (rule.NotSame found wanted apart) = why.NotSame
-why_of rule.Again = why.Again
 
 -- the premise that fails, of the item of this number and span
 pub record IsRule (number : ℕ) (at : Span) (r : rule.Refusal) (f : RuleFault) : Type 0 where

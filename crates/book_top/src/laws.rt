@@ -16,7 +16,8 @@ pub fn verdict_derivable()
     ensures { VerdictDerivable }
 {}
 
-/// What the rule of an item asks for isn't derivable where the item is refused by a rule.
+/// What the rule of an item asks for isn't derivable where the item is refused by a rule, and what the reason of the refusal
+/// says holds of the part of the item at the refusal's path.
 pub fn refused_underivable()
     ensures { RefusedUnderivable }
 {}

@@ -13,6 +13,8 @@ mod name_tests;
 mod names;
 #[cfg(test)]
 mod parameter_tests;
+#[cfg(test)]
+mod refusal_tests;
 mod report;
 #[cfg(test)]
 mod rule_tests;

@@ -68,8 +68,6 @@ pub enum WhyName {
     BoxBody,
     /// The part has another type than the one that is wanted.
     NotSame,
-    /// A type that is typed again is refused.
-    Again,
 }
 
 /// The first item that a rule refuses: its number, counted from 1, its span, and the premise that fails, with the

@@ -6,6 +6,7 @@ ghost use Rattle.book_top.specs.Desk.{OnlySays};
 ghost use Rattle.book_top.specs.Top.{IsFetched, AnswersNoCommand, Checks, Outcome, IsAbsent, IsSaid, IsAnswerOf, IsRule, why_of};
 ghost use Rattle.book_top.specs.Said.{SaysOf};
 ghost use Rattle.book_top.specs.Complete.{IsUndisturbed, CanBeDone, IsDoneOrMemory};
+ghost use Rattle.book_top.specs.Refused.{IsRightlyRefused};
 ghost use Rattle.book_top.specs.Checked.{AnswersFault, AnswersStop};
 ghost use Rattle.ld_terms.specs.Item.{Item};
 ghost use Rattle.ld_infer.specs.Infers.{refusal_of, reason_of};
@@ -35,6 +36,9 @@ const BOOK_BYTES: usize = 4_194_304;
 /// name. The items are judged in order, each under the flags that its bars leave open and within a budget of steps; the
 /// records of each are written before the next is judged. `verify DERIV` reads the derivation file DERIV, and judges each
 /// of its records before the next is read; it begins no file.
+///
+/// Where a rule is answered, the item that it names is the first that isn't accepted, and has no derivation after the
+/// items before it.
 pub fn run<D: Desk>(alloc: Global, words: &[&str], desk: &mut D) -> Status
     ensures outcome { IsTrue (D.seen desk.old).tells_files → Outcome (D.seen desk.old).files (D.seen desk.new).files (texts words.now) result }
     ensures usage { result ≡ Status.Usage → IsNoCommand (texts words.now) }
@@ -46,6 +50,7 @@ pub fn run<D: Desk>(alloc: Global, words: &[&str], desk: &mut D) -> Status
     ensures desk { result ≡ Status.Desk → Rose (D.seen desk.old).faults (D.seen desk.new).faults }
     ensures absent { IsTrue (D.seen desk.old).tells_files → IsTrue (D.seen desk.old).sound → result ≡ Status.Desk → IsAbsent (D.seen desk.old).files (texts words.now) }
     ensures complete { IsTrue (D.seen desk.old).tells_files → IsUndisturbed (D.seen desk.old) (D.seen desk.new) → CanBeDone (D.seen desk.old).files (texts words.now) → IsDoneOrMemory result }
+    ensures underivable { IsTrue (D.seen desk.old).tells_files → (fault : RuleFault) → result ≡ Status.Rule fault → IsRightlyRefused (D.seen desk.old).files (texts words.now) fault }
 {
     match read_words(alloc, words) {
         Ok(Some(Command::Check(asked))) => {
@@ -201,7 +206,6 @@ fn why_name(why: Why) -> WhyName
         Why::NotSort { .. } => WhyName::NotSort,
         Why::NotFunction { .. } => WhyName::NotFunction,
         Why::BoxBody => WhyName::BoxBody,
-        Why::Again => WhyName::Again,
         Why::NotSame { .. } => WhyName::NotSame,
     }
 }

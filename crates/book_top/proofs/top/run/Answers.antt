@@ -9,6 +9,7 @@ use Rattle.book_top.proofs.CommandLines.{not_both}
 use Rattle.book_top.proofs.Fetching.{unfetched_checks, unfetched_placeless}
 use Rattle.book_top.proofs.Runs.{said_checks, said_verifies, no_command_answers, same_out, says_of, says_placeless, about_book, about_derivation, about_nothing, asks_check, asks_verify, asks_nothing, unread_outcome, unread_says}
 use Rattle.book_top.proofs.Complete.{is_asked, completes, rises_by}
+use Rattle.book_top.proofs.Underivable.{rightly_refused}
 use Rattle.book_top.proofs.top.run.Goals as goal
 
 pub returns-in-Ok-clause-outcome : goal.returns-in-Ok-clause-outcome
@@ -142,3 +143,15 @@ returns-in-Ok-Some-Verify-clause-complete g c =
 
 pub returns-in-Ok-None-clause-complete : goal.returns-in-Ok-None-clause-complete
 returns-in-Ok-None-clause-complete g c = λ told undisturbed possible. absurd (is_asked possible (asks_nothing _ c.in-Ok-None.ensures.asked c.in-Ok-None.field-0-is))
+
+pub returns-in-Ok-clause-underivable : goal.returns-in-Ok-clause-underivable
+returns-in-Ok-clause-underivable g c = rightly_refused (g.D.Desk.seen c.args.desk.now) (g.D.Desk.seen c.say.new.desk) _ c.say.result (returns-in-Ok-clause-outcome g c)
+
+pub returns-in-Err-fetch-clause-underivable : goal.returns-in-Err-fetch-clause-underivable
+returns-in-Err-fetch-clause-underivable g c = rightly_refused (g.D.Desk.seen c.args.desk.now) (g.D.Desk.seen c.say-in-Err-fetch.new.desk) _ c.say-in-Err-fetch.result (returns-in-Err-fetch-clause-outcome g c)
+
+pub returns-in-Ok-Some-Verify-clause-underivable : goal.returns-in-Ok-Some-Verify-clause-underivable
+returns-in-Ok-Some-Verify-clause-underivable g c = rightly_refused (g.D.Desk.seen c.args.desk.now) (g.D.Desk.seen c.say-in-Ok-Some-Verify.new.desk) _ c.say-in-Ok-Some-Verify.result (returns-in-Ok-Some-Verify-clause-outcome g c)
+
+pub returns-in-Ok-None-clause-underivable : goal.returns-in-Ok-None-clause-underivable
+returns-in-Ok-None-clause-underivable g c = rightly_refused (g.D.Desk.seen c.args.desk.now) (g.D.Desk.seen c.say-in-Ok-None.new.desk) _ c.say-in-Ok-None.result (returns-in-Ok-None-clause-outcome g c)
