@@ -83,13 +83,8 @@ impl Bank {
         ensures high { result ≡ Err TermFault.High → ¬ IsSmall (put_item (item_at self.old t) (list_at self.old us) below) }
     {
         match self.node(t) {
-            Node::Var(i) => {
-                if i < below {
-                    self.add(Node::Var(i))
-                } else {
-                    self.place(us, i - below, below)
-                }
-            }
+            Node::Var(i) if i < below => self.add(Node::Var(i)),
+            Node::Var(i) => self.place(us, i - below, below),
             Node::App(f, u) => {
                 let g = self.put_below(f, us, below)?;
                 let v = self.put_below(u, us, below)?;

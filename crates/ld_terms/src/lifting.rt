@@ -1,7 +1,9 @@
 //! Lifting a term, so that it can stand below more binders.
 ghost use Rattle.std.specs.Prelude.{◌≡◌, ◌<◌, ◌+◌, ◌^◌, IfOk};
-ghost use Rattle.ld_terms.specs.Item.{height_of, IsSmall, lift_item};
-ghost use Rattle.ld_terms.specs.Bank.{item_at, IsLive, Extends, Holds};
+ghost use Rattle.ld_terms.specs.Tree.{Var};
+ghost use Rattle.ld_terms.specs.Put.{lift};
+ghost use Rattle.ld_terms.specs.Item.{One, height_of, IsSmall, lift_item};
+ghost use Rattle.ld_terms.specs.Bank.{item_at, IsLive, Extends, Holds, StandsFor};
 
 use crate::bank::{Bank, Node, TermFault, TermId, deeper};
 
@@ -16,16 +18,7 @@ impl Bank {
         ensures high { result ≡ Err TermFault.High → ¬ IsSmall (lift_item (item_at self.old t) by from) }
     {
         match self.node(t) {
-            Node::Var(i) => {
-                if i < from {
-                    self.add(Node::Var(i))
-                } else {
-                    match i.checked_add(by) {
-                        Some(j) => self.add(Node::Var(j)),
-                        None => Err(TermFault::High),
-                    }
-                }
-            }
+            Node::Var(i) => self.lift_variable(i, by, from),
             Node::App(f, u) => {
                 let g = self.lift(f, by, from)?;
                 let v = self.lift(u, by, from)?;
@@ -51,6 +44,22 @@ impl Bank {
                 self.add(Node::Cons(v, vs))
             }
             Node::Star | Node::Box_ | Node::Nil => Ok(t),
+        }
+    }
+
+    // Adds `by` to a variable's index, if that is at least `from`.
+    fn lift_variable(&mut self, i: u32, by: u32, from: u32) -> Result<TermId, TermFault>
+        ensures tree { IfOk result (λ r. StandsFor self.new r (lift (Var i) by from)) }
+        ensures kept { Extends self.old self.new }
+        ensures small { IfOk result (λ r. IsSmall (item_at self.new r)) }
+        ensures high { result ≡ Err TermFault.High → ¬ IsSmall (One (lift (Var i) by from)) }
+    {
+        if i < from {
+            return self.add(Node::Var(i));
+        }
+        match i.checked_add(by) {
+            Some(j) => self.add(Node::Var(j)),
+            None => Err(TermFault::High),
         }
     }
 }
