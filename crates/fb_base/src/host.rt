@@ -1,5 +1,6 @@
 //! The desk over the files and the standard output of a runtime: the edge of what is proved.
-ghost use Rattle.std.specs.Prelude.{◌≡◌, ◌≤◌, true, length, IfOk, IsErrOf};
+ghost use Rattle.std.specs.Prelude.{◌≡◌, ◌≤◌, ℕ, true, IsTrue, length, take, IfSome, IfOk, OnOk, IsErrOf};
+ghost use Rattle.std.specs.Io.KnownBytes.{Consumes, Appends as AppendsTo};
 ghost use Rattle.fb_base.specs.Desk.{Starts, Appends, Says};
 
 use crate::{Desk, DeskFault};
@@ -92,6 +93,8 @@ impl<R: Files + Print + Clone + Drop> Desk for HostDesk<R> {
     fn append(&mut self, bytes: &[u8]) -> Result<(), DeskFault>
         requires { (⟦<HostDesk<R> as Desk>⟧.seen self.old).started ≡ true }
         ensures appends { Appends (⟦<HostDesk<R> as Desk>⟧.seen self.old) (⟦<HostDesk<R> as Desk>⟧.seen self.new) bytes.now result }
+        ensures written { OnOk result (IfSome self.old.file (λ before. IfSome self.new.file (λ after. AppendsTo (R.File.contents before) (R.File.contents after) bytes.now))) }
+        ensures front { IfSome self.old.file (λ before. IfSome self.new.file (λ after. (n : ℕ) × AppendsTo (R.File.contents before) (R.File.contents after) (take n bytes.now))) }
         ensures not_memory { IsErrOf result Memory → ⊥ }
     {
         let Some(file) = &mut self.file else {
@@ -115,18 +118,18 @@ impl<R: Files + Print + Clone + Drop> Desk for HostDesk<R> {
 }
 
 // Reads to the file's end, but at most so many bytes. A read that gives nothing is the end.
+#[tactic(auto, using(crate::proofs::Streams::read_more, crate::proofs::Streams::first_wanted, crate::proofs::Streams::first_left))]
 fn read_up_to<F: Read>(alloc: Global, file: &mut F, most: usize) -> Result<Vec<u8>, DeskFault>
     ensures bound { IfOk result (λ bytes. length bytes.items ≤ most) }
+    ensures front { IfOk result (λ bytes. IfSome (F.remaining file.old) (λ left. bytes.items ≡ take most left)) }
+    ensures rest { IfOk result (λ bytes. Consumes (F.remaining file.old) (F.remaining file.new) bytes.items) }
 {
     let mut bytes = Vec::new(alloc);
     let mut buffer = [0u8; BUFFER];
-    for _ in 0..most {
+    while bytes.len() < most {
         let wanted = (most - bytes.len()).min(BUFFER);
-        if wanted == 0 {
-            break;
-        }
         match file.read(&mut buffer[..wanted]) {
-            Ok(0) => break,
+            Ok(0) => return Ok(bytes),
             Ok(count) => bytes.extend_from_slice(&buffer[..count])?,
             Err(_) => return Err(DeskFault::Failed),
         }
@@ -135,17 +138,17 @@ fn read_up_to<F: Read>(alloc: Global, file: &mut F, most: usize) -> Result<Vec<u
 }
 
 // Writes all bytes, and says whether they were taken. A write that takes nothing of them is a failure.
-fn write_whole<F: Write>(file: &mut F, bytes: &[u8]) -> bool {
+fn write_whole<F: Write>(file: &mut F, bytes: &[u8]) -> bool
+    ensures whole { IsTrue result → AppendsTo (F.contents file.old) (F.contents file.new) bytes.now }
+    ensures front { (n : ℕ) × AppendsTo (F.contents file.old) (F.contents file.new) (take n bytes.now) }
+{
     let mut rest = bytes;
-    for _ in 0..bytes.len() {
-        if rest.is_empty() {
-            break;
-        }
+    while !rest.is_empty() {
         match file.write(rest) {
             Ok(0) => return false,
             Ok(count) => rest = &rest[count..],
             Err(_) => return false,
         }
     }
-    rest.is_empty() && file.flush().is_ok()
+    file.flush().is_ok()
 }
