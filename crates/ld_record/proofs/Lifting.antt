@@ -1,5 +1,5 @@
 -- A judgement led over the entries one by one.
-use Rattle.std.proofs.Common.{◌+◌, ℕ, List}
+use Rattle.std.proofs.Common.{◌≡◌, ◌+◌, ℕ, List, length}
 use Rattle.ld_terms.specs.Item.{Item}
 use Rattle.ld_terms.specs.Known.{Judgement}
 use Rattle.ld_record.specs.declared.record.JudgeId.{JudgeId}
@@ -17,3 +17,4 @@ pub record Lifts (items : List Item) (start now : List Kept) (s : Judgement) (n 
   pub adds : Adds (known_of items start) (known_of items now)
   pub node : Knows (known_of items now) lifted (over_first s n)
   pub begins : Begins start now
+  pub added : length now + s.entries ≡ length start + n

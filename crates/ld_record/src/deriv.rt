@@ -1,5 +1,5 @@
 //! A derivation: its records in the order in which they were made.
-ghost use Rattle.std.specs.Prelude.{◌≡◌, ◌≤◌, ◌++◌, ◌∷◌, ◌<◌, [], List, length, slice_get, Some, IfOk, OnOk, OnErr};
+ghost use Rattle.std.specs.Prelude.{◌≡◌, ◌≤◌, ◌++◌, ◌∷◌, ◌+◌, ◌<◌, [], List, length, slice_get, Some, IfOk, OnOk, OnErr};
 ghost use Rattle.ld_terms.specs.Item.{Item};
 ghost use Rattle.ld_terms.specs.Bank.{tree_at};
 ghost use Rattle.ld_terms.specs.Tree.{◌▸◌};
@@ -204,6 +204,7 @@ impl Deriv {
         ensures adds { Adds (known_of bank.now self.old) (known_of bank.now self.new) }
         ensures sound { IsSound bank.now self.new }
         ensures begins { Begins self.old self.new }
+        ensures added { OnOk result (length self.new + (judgement_at (known_of bank.now self.old) j.0).entries ≡ length self.old + to) }
     {
         let judge = self.judge(bank, j);
         let mut lifted = j;
