@@ -1,6 +1,6 @@
 use Rattle.std.proofs.Common.{rules}
 use Rattle.std.proofs.lemmas.Result.{err_from_is_err_and}
-use Rattle.fb_parse.proofs.Bodies.{line_fails_1, line_fails_2, line_fails_3, line_read}
+use Rattle.fb_parse.proofs.Entries.{line_fails_1, line_fails_2, line_fails_3, line_read}
 use Rattle.fb_parse.proofs.item.entry.Goals as goal
 
 pub returns-in_err-body-clause-read : goal.returns-in_err-body-clause-read

@@ -1,5 +1,5 @@
 use Rattle.std.proofs.lemmas.Result.{err_from_is_err_and}
-use Rattle.fb_parse.proofs.Bodies.{flag_fails_1, flag_fails_2, flag_fails_3, flag_fails_4, flag_fails_5, flag_read}
+use Rattle.fb_parse.proofs.Entries.{flag_fails_1, flag_fails_2, flag_fails_3, flag_fails_4, flag_fails_5, flag_read}
 use Rattle.fb_parse.proofs.item.flag.Goals as goal
 
 pub returns-in_err-name-clause-read : goal.returns-in_err-name-clause-read

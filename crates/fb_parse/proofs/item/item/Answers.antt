@@ -1,6 +1,6 @@
 use Rattle.std.proofs.Common.{rules}
 use Rattle.std.proofs.lemmas.Result.{err_from_is_err_and}
-use Rattle.fb_parse.proofs.Bodies.{entry_fails_1, entry_fails_2, entry_fails_3, entry_read}
+use Rattle.fb_parse.proofs.Entries.{entry_fails_1, entry_fails_2, entry_fails_3, entry_read}
 use Rattle.fb_parse.proofs.item.item.Goals as goal
 
 pub returns-in_err-assign-clause-read : goal.returns-in_err-assign-clause-read

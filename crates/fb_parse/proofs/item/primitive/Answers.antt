@@ -1,5 +1,5 @@
 use Rattle.std.proofs.lemmas.Result.{err_from_is_err_and}
-use Rattle.fb_parse.proofs.Bodies.{prim_fails_1, prim_fails_2, prim_fails_3, prim_read}
+use Rattle.fb_parse.proofs.Entries.{prim_fails_1, prim_fails_2, prim_fails_3, prim_read}
 use Rattle.fb_parse.proofs.item.primitive.Goals as goal
 
 pub returns-in_err-colon-clause-read : goal.returns-in_err-colon-clause-read
