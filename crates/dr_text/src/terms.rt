@@ -1,5 +1,5 @@
 //! The terms of a derivation file, by their numbers there.
-ghost use Rattle.std.specs.Prelude.{◌≡◌, ◌≢◌, ◌<◌, ◌∷◌, ℕ, suc, [], length, slice_index_or, Some, None, IfOk, OnOk};
+ghost use Rattle.std.specs.Prelude.{◌≡◌, ◌≢◌, ◌<◌, ◌∷◌, ℕ, suc, [], length, slice_index_or, Some, None, Ok, IfOk, OnOk};
 ghost use Rattle.ld_terms.specs.Item.{IsOne, IsSmall, tree};
 ghost use Rattle.ld_terms.specs.Tree.{Nil, ◌▸◌};
 ghost use Rattle.ld_terms.specs.Bank.{tree_at, list_at, item_of, IsTermAt, IsListAt, HasParts};
@@ -46,7 +46,9 @@ impl Terms {
         out: &mut Vec<u8>,
     ) -> Result<usize, NoMemory>
         requires { IsTermAt bank.now t }
-        ensures { IfOk result (λ n. Numbers bank.now self.old self.new out.old.items out.new.items (tree_at bank.now t) n) }
+        ensures number { IfOk result (λ n. Numbers bank.now self.old self.new out.old.items out.new.items (tree_at bank.now t) n) }
+        ensures there { (n : ℕ) → number_in self.old.numbers.items t ≡ Some n
+            → (result ≡ Ok n) × (self.new ≡ self.old) × (out.new.items ≡ out.old.items) }
     {
         if let Some(number) = self.find(t) {
             return Ok(number);

@@ -14,7 +14,7 @@ returns-in_ok-t-in-Context c =
     on_ok_weaker c.push_record.result
     (λ bytes. subst P (sym c.in-Context.is)
     (context_written c.args.bank.now c.args.terms.now c.number_of.new.self _ c.number_of.new.out.items _ c.in-Context.ctx c.in-Context.t c.in_ok-t-in-Context.t
-    (c.in_ok-t-in-Context.ensures {u = tt})
+    c.in_ok-t-in-Context.ensures.number
     (subst Q c.number.ensures (pushes_plain _ _ (Record.Context c.number.result c.in_ok-t-in-Context.t) refl refl bytes c.push_record.ensures.range))))
     c.push_record.ensures.bytes
 
@@ -24,7 +24,7 @@ returns-in_ok-right-in-Equal c =
     on_ok_weaker c.push_equal.result
     (λ pushes. subst P (sym c.in-Equal.is)
     (equal_written c.args.bank.now c.args.terms.now c.number_of-in-Equal.new.self c.number_of-in-Equal-2.new.self _ c.number_of-in-Equal.new.out.items c.number_of-in-Equal-2.new.out.items _
-    c.in-Equal.left c.in-Equal.right c.in-Equal.step c.in_ok-left-in-Equal.left c.in_ok-right-in-Equal.right (c.in_ok-left-in-Equal.ensures {u = tt}) (c.in_ok-right-in-Equal.ensures {u = tt}) pushes))
+    c.in-Equal.left c.in-Equal.right c.in-Equal.step c.in_ok-left-in-Equal.left c.in_ok-right-in-Equal.right c.in_ok-left-in-Equal.ensures.number c.in_ok-right-in-Equal.ensures.number pushes))
     c.push_equal.ensures
 
 pub returns-in_ok-of-in-Node : goal.returns-in_ok-of-in-Node
@@ -33,7 +33,7 @@ returns-in_ok-of-in-Node c =
     on_ok_weaker c.push_node.result
     (λ pushes. subst P (sym c.in-Node.is)
     (node_written c.args.bank.now c.args.terms.now c.number_of-in-Node.new.self c.number_of-in-Node-2.new.self _ c.number_of-in-Node.new.out.items c.number_of-in-Node-2.new.out.items _
-    c.in-Node.judge c.in-Node.step c.in_ok-term-in-Node.term c.in_ok-of-in-Node.of (c.in_ok-term-in-Node.ensures {u = tt}) (c.in_ok-of-in-Node.ensures {u = tt}) pushes))
+    c.in-Node.judge c.in-Node.step c.in_ok-term-in-Node.term c.in_ok-of-in-Node.of c.in_ok-term-in-Node.ensures.number c.in_ok-of-in-Node.ensures.number pushes))
     c.push_node.ensures
 
 pub returns-in-Entry : goal.returns-in-Entry

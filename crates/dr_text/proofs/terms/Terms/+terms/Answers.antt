@@ -28,12 +28,12 @@ in_form items old new before later n m is writes =
 small_in : (items : List Item) (n m : Node) → n ≡ m → IsSmall (item_of items n) → IsSmall (item_of items m)
 small_in items n m is small = let P : Node → Type 0 = λ x. IsSmall (item_of items x) in subst P is small
 
-pub number_of-returns-in-Some : goal.number_of-returns-in-Some
-number_of-returns-in-Some t c =
+pub number_of-returns-in-Some-clause-number : goal.number_of-returns-in-Some-clause-number
+number_of-returns-in-Some-clause-number t c =
     numbered_there c.args.bank.now c.args.self.now c.args.out.now.items c.args.t c.in-Some.number (sym c.find.ensures ∙ c.in-Some.is)
 
-pub number_of-returns : goal.number_of-returns
-number_of-returns t c =
+pub number_of-returns-clause-number : goal.number_of-returns-clause-number
+number_of-returns-clause-number t c =
     if_ok_three c.keep.result _
     (λ n number at others count. numbered_last c.args.bank.now c.args.self.now c.write.new.self c.keep.new.self c.args.out.now.items c.write.new.out.items c.args.t _ n
     c.requires.live (ap item.tree c.node.ensures.tree) (c.in_ok-write.ensures {u = tt}) number at others count)
@@ -44,7 +44,7 @@ numbers_of-returns-in_ok-map_err-in-Cons t c =
     let pushed : c.push.new.self.items ≡ c.in_ok-numbers-in-Cons.numbers.items ++ c.in_ok-number-in-Cons.number ∷ [] = grind (arith, common_steps) in
     let all = all_numbered_more c.args.bank.now c.args.self.now c.numbers_of.new.self c.number_of.new.self c.args.out.now.items c.numbers_of.new.out.items c.number_of.new.out.items
     (list_at c.args.bank.now c.in-Cons.front) (tree_at c.args.bank.now c.in-Cons.u) c.in_ok-numbers-in-Cons.numbers.items c.in_ok-number-in-Cons.number
-    (c.in_ok-numbers-in-Cons.ensures {u = tt}) (c.in_ok-number-in-Cons.ensures {u = tt}) in
+    (c.in_ok-numbers-in-Cons.ensures {u = tt}) c.in_ok-number-in-Cons.ensures.number in
     let P : Trees → Type 0 = λ us. NumbersAll c.args.bank.now c.args.self.now c.number_of.new.self c.args.out.now.items c.number_of.new.out.items us c.push.new.self.items in
     let Q : List ℕ → Type 0 = λ ns. NumbersAll c.args.bank.now c.args.self.now c.number_of.new.self c.args.out.now.items c.number_of.new.out.items
     (list_at c.args.bank.now c.in-Cons.front ▸ tree_at c.args.bank.now c.in-Cons.u) ns in
@@ -61,7 +61,7 @@ pub numbers_of_two-returns : goal.numbers_of_two-returns
 numbers_of_two-returns t c =
     two_numbered c.args.bank.now c.args.self.now c.number_of.new.self c.number_of-2.new.self c.args.out.now.items c.number_of.new.out.items c.number_of-2.new.out.items
     (tree_at c.args.bank.now c.args.a) (tree_at c.args.bank.now c.args.b) c.in_ok-first.first c.in_ok-second.second
-    (c.in_ok-first.ensures {u = tt}) (c.in_ok-second.ensures {u = tt})
+    c.in_ok-first.ensures.number c.in_ok-second.ensures.number
 
 pub write-returns-in-Star : goal.write-returns-in-Star
 write-returns-in-Star t c =
