@@ -4,7 +4,6 @@ use Rattle.std.proofs.lemmas.List.{append-nil, length-append, length_push}
 use Rattle.std.proofs.Math.Seq.{drop-append_seam}
 use Rattle.ld_terms.specs.Known.{judgement_at, line_entry, primitive_entry}
 use Rattle.ld_terms.specs.Record.{Record, State, IsThere, Meets, IsNoEnd, Stand, Stands, start, after, final}
-use Rattle.ld_terms.specs.Derivable.{IsLegal}
 use Rattle.ld_env.specs.Entries.{env_of, AreLive}
 use Rattle.dr_text.specs.Spelling.{header, record_bytes, records_bytes, spelling}
 use Rattle.dr_text.specs.Read.{Reading, is_end, HasHeader, IsRecordAt, IsNoRecordAt, Reads, Parts}

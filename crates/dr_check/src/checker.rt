@@ -287,6 +287,7 @@ impl Checker {
         requires room { length self.old.state.known.env + 1 < 2 ^ 32 }
         ensures ok { OnOk result (self.new.state
             ≡ record self.old.state { known = with_entry self.old.state.known (entry_by prim name.now (judgement_of self.old.items judged)) }) }
+        ensures err { OnErr result (self.new.state ≡ self.old.state) }
     {
         let entry = entry_of(alloc, &self.bank, judged, prim)?;
         let name = Text::from_bytes(alloc, name)?;

@@ -2,15 +2,16 @@ use Rattle.std.proofs.Common.{◌≡◌, ◌-◌, ◌++◌, ◌∷◌, [], ℕ, 
 use Rattle.std.proofs.lemmas.Grind.{common_steps}
 use Rattle.ld_terms.specs.Item.{Item}
 use Rattle.ld_terms.specs.Known.{Judgement, with_entry}
+use Rattle.ld_terms.specs.Record.{State}
 use Rattle.ld_env.specs.Named.{Named, named}
 use Rattle.ld_env.specs.Entries.{entry_of}
 use Rattle.ld_env.proofs.CallerLemmas.{take-push}
 use Rattle.dr_check.specs.declared.checker.Noted.{Noted}
 use Rattle.dr_check.specs.declared.checker.Noted.TheVariants as noted
-use Rattle.dr_check.specs.Stage.{Stage, AreTables, judgement_of, entry_by}
+use Rattle.dr_check.specs.Stage.{Stage, AreTables, judgement_of, state_of, entry_by}
 use Rattle.dr_check.proofs.Growing.{Say, entry_said}
 use Rattle.dr_check.proofs.checker.Checker.add_entry.Goals as goal
-use Rattle.dr_check.proofs.checker.Checker.add_entry.Goals.{Then-is_err, Else-is_err}
+use Rattle.dr_check.proofs.checker.Checker.add_entry.Goals.{Else-is_err}
 
 said : (c : Else-is_err) → Say c.self.inside.bank c.push.new.self c.self.inside.terms.items c.self.inside.contexts.items c.self.inside.equalities.items c.self.inside.nodes.items c.push-2.new.self.items
     (record c.args.self.now.state { known = with_entry c.args.self.now.state.known (entry_by c.args.prim c.args.name.now (judgement_of c.self.inside.bank c.args.judged)) })
@@ -28,19 +29,32 @@ said c =
     entry_said _ _ _ _ _ _ _ _ say c.push.new.self c.push-2.new.self.items x (entry_by c.args.prim c.args.name.now j) pushed
     (noting ∙ ap (λ (n : ℕ). c.self.inside.notes.items ++ noted.Entry n ∷ []) number) c.in_ok-entry.ensures.live is
 
+-- an entry that was added and taken away again
+taken_away : (entries more fewer : List Named) (x : Named) → more ≡ entries ++ x ∷ [] → fewer ≡ take (length more - 1) more → fewer ≡ entries
+taken_away entries more fewer x push pop = pop ∙ ap (λ (es : List Named). take (length es - 1) es) push ∙ take-push entries x
+
 pub invariant_of-self-then-is_err : goal.invariant_of-self-then-is_err
 invariant_of-self-then-is_err c =
     let x : Named = named c.in_ok-name.name c.in_ok-entry.entry in
     let pushed : c.push.new.self ≡ c.self.inside.env ++ x ∷ [] = grind (arith, common_steps) in
-    let popped : c.pop.new.self ≡ c.self.inside.env = c.pop.ensures ∙ ap (λ (es : List Named). take (length es - 1) es) pushed ∙ take-push c.self.inside.env x in
+    let popped : c.pop.new.self ≡ c.self.inside.env = taken_away c.self.inside.env c.push.new.self c.pop.new.self x pushed c.pop.ensures in
     let unchanged : c.push-2.new.self.items ≡ c.self.inside.notes.items = grind (arith, common_steps) in
     let P : List Named → List Noted → Type 0 = λ es xs. AreTables c.self.inside.bank es c.self.inside.terms.items c.self.inside.contexts.items c.self.inside.equalities.items c.self.inside.nodes.items xs in
     subst₂ P (sym popped) (sym unchanged) c.self.invariant
 
+pub returns-then-is_err-clause-err : goal.returns-then-is_err-clause-err
+returns-then-is_err-clause-err c =
+    let x : Named = named c.in_ok-name.name c.in_ok-entry.entry in
+    let pushed : c.push.new.self ≡ c.self.inside.env ++ x ∷ [] = grind (arith, common_steps) in
+    let popped : c.pop.new.self ≡ c.self.inside.env = taken_away c.self.inside.env c.push.new.self c.pop.new.self x pushed c.pop.ensures in
+    let unchanged : c.push-2.new.self.items ≡ c.self.inside.notes.items = grind (arith, common_steps) in
+    let S : List Named → List Noted → State = λ es xs. state_of c.self.inside.bank es c.self.inside.terms.items c.self.inside.contexts.items c.self.inside.equalities.items c.self.inside.nodes.items xs in
+    (λ i. S (popped i) (unchanged i)) ∙ ap (λ (y : Stage). y.state) c.self.view_is
+
 pub invariant_of-self-else-is_err : goal.invariant_of-self-else-is_err
 invariant_of-self-else-is_err c = (said c).tables
 
-pub returns : goal.returns
-returns c =
+pub returns-clause-ok : goal.returns-clause-ok
+returns-clause-ok c =
     let bank : c.self.inside.bank ≡ c.args.self.now.items = ap (λ (y : Stage). y.items) c.self.view_is in
-    record { ok = (said c).state ∙ ap (λ (y : List Item). record c.args.self.now.state { known = with_entry c.args.self.now.state.known (entry_by c.args.prim c.args.name.now (judgement_of y c.args.judged)) }) bank }
+    (said c).state ∙ ap (λ (y : List Item). record c.args.self.now.state { known = with_entry c.args.self.now.state.known (entry_by c.args.prim c.args.name.now (judgement_of y c.args.judged)) }) bank
