@@ -8,9 +8,9 @@ ghost use Rattle.ld_infer.specs.Reading.{part_reading, suits, suited_reading, ar
 ghost use Rattle.ld_infer.specs.Standing.{known, env, here, account, Continues, KnowsPairs};
 ghost use Rattle.ld_infer.specs.Infers.{Suits, IsReadable};
 
-use crate::failure::{InferFault, PathStep, RuleName, Why};
+use crate::failure::{InferFault, PathStep, RuleName};
 use crate::inference::{Typed, infer_part, type_again};
-use crate::refusal::{refusal, within};
+use crate::refusal::{not_same, within};
 use crate::theory::Theory;
 use ld_convert::{Compared, Job};
 use ld_record::{JudgeId, Step};
@@ -112,14 +112,8 @@ fn compared_judgement(
             Ok(judge)
         }
         Compared::Apart { left, right, under } => {
-            let why = Why::NotSame {
-                found: typed.of,
-                wanted,
-                left,
-                right,
-                under,
-            };
-            Err(refusal(alloc, theory, asked, why))
+            let parts = (left, right, under);
+            Err(not_same(alloc, theory, asked, typed.of, wanted, parts))
         }
     }
 }

@@ -320,16 +320,8 @@ fn application(
     let function = function_type(alloc, theory, f, nest, job)?;
     theory.keeps_well_formed();
     let asked = (RuleName::Appl, 2);
-    let argument = argument_judgement(
-        alloc,
-        theory,
-        PathStep::Arg,
-        asked,
-        function.domain,
-        u,
-        nest,
-        job,
-    )?;
+    let domain = function.domain;
+    let argument = argument_judgement(alloc, theory, PathStep::Arg, asked, domain, u, nest, job)?;
     let of = theory.instantiate(function.range, &[u])?;
     let judge = theory.conclude(t, of, Step::Appl(function.judge, argument))?;
     Ok(Typed {

@@ -5,10 +5,12 @@ ghost use Rattle.ld_terms.specs.Item.{Item};
 ghost use Rattle.ld_infer.specs.Reading as reading;
 ghost use Rattle.ld_infer.specs.Infers.{IsRefusedBy, IsWithin, reason_of};
 ghost use Rattle.ld_infer.specs.declared.failure.RuleName.TheVariants as rule;
+ghost use Rattle.ld_infer.specs.declared.failure.Why.TheVariants as why;
 
 use crate::failure::{Failure, InferFault, Path, PathStep, RuleName, Why};
 use crate::theory::Theory;
 use ld_reduce::Stop;
+use ld_terms::TermId;
 use std::alloc::Global;
 
 // A refusal of the term itself.
@@ -43,6 +45,30 @@ pub(crate) fn box_body(alloc: Global, theory: &Theory) -> InferFault
         depth: theory.depth() - 1,
         why: Why::BoxBody,
     })
+}
+
+// The refusal of a term whose type isn't the one that is wanted: the two come apart at these parts, under so many binders.
+pub(crate) fn not_same(
+    alloc: Global,
+    theory: &Theory,
+    asked: (RuleName, u32),
+    found: TermId,
+    wanted: TermId,
+    parts: (TermId, TermId, u32),
+) -> InferFault
+    requires { count theory.now.context < 2 ^ 32 }
+    ensures { (items : List Item) → IsRefusedBy items
+        (reading.refusal asked (count theory.now.context) (reason_of items (why.NotSame found wanted parts.0 parts.1 parts.2))) result }
+{
+    let (left, right, under) = parts;
+    let why = Why::NotSame {
+        found,
+        wanted,
+        left,
+        right,
+        under,
+    };
+    refusal(alloc, theory, asked, why)
 }
 
 /// The fault of a part that stands at a step: the step goes in front of a refusal's path.

@@ -364,8 +364,8 @@ argument::compared_judgement-returns-in-Apart-clause-answer t c =
     let b = c.compare.new.self in
     let P : Compared → Type 0 = λ x. ComparesTypes a b (c.args.nest + 1) (tree_at a.items c.args.typed.of) (tree_at a.items c.args.wanted) (account a c.args.job.now) (account b c.compare.new.job) (Ok x) in
     let apart = subst P c.in-Apart.is c.in_ok-compared.ensures.answer in
-    compared_refused a b c.args.nest c.args.asked c.args.typed.of c.args.wanted c.in-Apart.left c.in-Apart.right c.in-Apart.under c.refusal.result (account a c.args.job.now) (account b c.compare.new.job)
-    c.compare.ensures.continues c.requires.of c.requires.wanted.0 apart (c.refusal.ensures b.items)
+    compared_refused a b c.args.nest c.args.asked c.args.typed.of c.args.wanted c.in-Apart.left c.in-Apart.right c.in-Apart.under c.not_same.result (account a c.args.job.now) (account b c.compare.new.job)
+    c.compare.ensures.continues c.requires.of c.requires.wanted.0 apart (c.not_same.ensures b.items)
 
 -- Applications.
 pub inference::application-returns-in_err-function-clause-answer : goal.inference::application-returns-in_err-function-clause-answer
