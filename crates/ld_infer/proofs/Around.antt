@@ -40,6 +40,9 @@ pub record IsAround (a b c e d : Standing) (x : TermId) : Type 0 where
   pub inside : Continues c e
   pub leaves : d ≡ record e { context = without_last e.context }
 
+pub between : {a b c e d : Standing} {x : TermId} → Continues a b → Enters b c (tree_at b.items x) → Continues c e → d ≡ record e { context = without_last e.context } → IsAround a b c e d x
+between domain enters inside leaves = record { domain = domain; enters = enters; inside = inside; leaves = leaves }
+
 module _ (a b c e d : Standing) (x : TermId) (h : IsAround a b c e d x) (at : IsTermAt a.items x) where
   pub around : Continues a d
   around = continues_trans a b d h.domain (continues_around b c e d (tree_at b.items x) h.enters h.inside h.leaves)

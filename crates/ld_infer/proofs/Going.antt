@@ -31,6 +31,10 @@ continues_trans a b c h k = record {
   context = k.context ∙ h.context;
 }
 
+infixl 10 ◌⨟◌
+pub ◌⨟◌ : {a b c : Standing} → Continues a b → Continues b c → Continues a c
+h ⨟ k = continues_trans _ _ _ h k
+
 -- the judgement of a term in the context, over all entries, is the same later
 pub here_stays : (a b : Standing) (t type : Tree) → Continues a b → here b t type ≡ here a t type
 here_stays a b t type h =

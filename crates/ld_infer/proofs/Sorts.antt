@@ -1,5 +1,6 @@
 -- The sort of a term, of a domain, and of a type that is typed again.
-use Rattle.std.proofs.Common.{◌≡◌, ◌+◌, ◌-◌, ◌≤◌, ℕ, suc, Bool, true, false, ◌||◌, List, Result, Ok, Err, sym, subst, arith}
+use Rattle.std.proofs.Common.{◌≡◌, ◌+◌, ◌-◌, ◌≤◌, ℕ, suc, Bool, true, false, ◌||◌, List, Result, Ok, Err, IsErrAnd, sym, subst, arith}
+use Rattle.std.proofs.lemmas.Result.{err_from_is_err_and}
 use Rattle.ld_terms.specs.Tree.{Tree, Trees, count}
 use Rattle.ld_terms.specs.Item.{Item}
 use Rattle.ld_terms.specs.Entry.{Env}
@@ -78,3 +79,7 @@ typed_again a b nest q t w w1 w2 takes known (Err f) h =
 -- the answer is a fault that was passed on
 pub at_fault : {X : Type 0} (P : Result X InferFault → Type 0) (r : Result X InferFault) (f g : InferFault) → r ≡ Err g → g ≡ f → P (Err f) → P r
 at_fault P r f g e same h = let Q : InferFault → Type 0 = λ x. P (Err x) in subst P (sym e) (subst Q (sym same) h)
+
+-- the same of what a `?` returns
+pub at_err : {X : Type 0} (P : Result X InferFault → Type 0) (r : Result X InferFault) (f : InferFault) → IsErrAnd r (λ g. g ≡ f) → P (Err f) → P r
+at_err P r f e h = let p = err_from_is_err_and r e in at_fault P r f p.0 p.1 p.2 h
