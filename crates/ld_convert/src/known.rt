@@ -50,7 +50,8 @@ impl Known {
         &self.pairs
     }
 
-    /// The equality of the first pair that has the trees of these terms.
+    /// The equality of a pair that has the trees of these terms: the last one, as what was found the same last is most
+    /// often asked for next.
     pub fn find(&self, bank: &Bank, a: TermId, b: TermId) -> Option<EqId>
         requires pairs { All (HasTerms bank.now) self.now }
         requires first { IsTermAt bank.now a }
@@ -58,7 +59,10 @@ impl Known {
         ensures { MatchOption result (is_known (pairs_of bank.now self.now) (tree_at bank.now a) (tree_at bank.now b) ≡ false)
             (IsFound bank.now self.now (tree_at bank.now a) (tree_at bank.now b)) }
     {
-        for pair in &self.pairs {
+        let mut left = self.pairs.len();
+        while left > 0 {
+            left -= 1;
+            let pair = self.pairs[left];
             if bank.same(pair.left, a) && bank.same(pair.right, b) {
                 return Some(pair.equal);
             }

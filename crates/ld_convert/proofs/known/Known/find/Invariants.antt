@@ -1,10 +1,10 @@
-use Rattle.std.proofs.Common.{◌≡◌, drop}
 use Rattle.ld_terms.specs.Bank.{tree_at}
-use Rattle.ld_convert.specs.Known.{is_known}
-use Rattle.ld_convert.specs.Pairs.{pairs_of}
+use Rattle.ld_convert.proofs.Finding.{NoneFrom}
 use Rattle.ld_convert.proofs.known.Known.find.Given as goal
 
--- The pairs so far are no such pair.
-abbrev pub invariant-loop-pair : goal.invariant-loop-pair
-invariant-loop-pair l =
-    is_known (pairs_of l.bank l.self) (tree_at l.bank l.a) (tree_at l.bank l.b) ≡ is_known (pairs_of l.bank (drop l.pair-index l.self)) (tree_at l.bank l.a) (tree_at l.bank l.b)
+-- The pairs that were looked at are no such pair.
+abbrev pub invariant-loop-left : goal.invariant-loop-left
+invariant-loop-left l = NoneFrom l.bank l.self (tree_at l.bank l.a) (tree_at l.bank l.b) l.left
+
+abbrev pub decreases-loop-left : goal.decreases-loop-left
+decreases-loop-left l = l.left
