@@ -27,6 +27,7 @@ use Rattle.ld_convert.specs.declared.job.Compared.TheVariants as compared
 use Rattle.ld_convert.specs.declared.turning.Turned.{Turned}
 use Rattle.ld_convert.specs.declared.turning.Turned.TheVariants as turned
 use Rattle.ld_convert.proofs.Agreeing.{gives_injective, fails_injective, some_injective, none_some, no_value}
+use Rattle.ld_convert.proofs.Spending.{takes_all}
 use Rattle.ld_convert.proofs.Carrying.{Carries}
 use Rattle.ld_convert.proofs.Once.{turns_once, comparison_once, within_once}
 
@@ -65,7 +66,7 @@ module _ (env : Env) (compare : Tree → Tree → Task Apart (Unit {0})) (hc : (
 
   pub next_stops : (a b : Tree) (K L : Pairs) (old new : Work) (s : Stop) → (equals a b || is_known K a b) ≡ false → StopsTask (turn env compare a b) K L old new s
       → StopsTask (next_turn env compare a b) K L old new s
-  next_stops a b K L old new stop.Spent e h = record { none = λ r M n t. h.none r M n (was_next a b K false r M n e t); left = h.left }
+  next_stops a b K L old new stop.Spent e h = record { none = λ r M n t. h.none r M n (was_next a b K false r M n e t); left = h.left; takes = h.takes }
   next_stops a b K L old new stop.High e h = next_comes a b K L High old new e h
   next_stops a b K L old new stop.Nested e h = next_comes a b K L Nested old new e h
   next_stops a b K L old new stop.Memory e h = tt
@@ -107,7 +108,7 @@ module _ (env : Env) (compare : Tree → Tree → Task Apart (Unit {0})) (hc : (
 
   -- a turn that runs out
   pub turns_out : (a b : Tree) (K : Pairs) (old new : Work) → RunsOut (next_turn env compare a b) K old new → RunsOut (Turns env compare a b) K old new
-  turns_out a b K old new h = record { none = λ r L n t. late a b K r L n h.none t; left = h.left }
+  turns_out a b K old new h = record { none = λ r L n t. late a b K r L n h.none t; left = h.left; takes = h.takes }
     where
       late : (a b : Tree) (K : Pairs) (r : Answer Apart (Unit {0})) (L : Pairs) (n : ℕ)
           → ((s : Answer Apart (Option (Tree × Tree))) (M : Pairs) (m : ℕ) → next_turn env compare a b K s M m → old.left < m) → Turns env compare a b K r L n → old.left < n
@@ -127,7 +128,7 @@ module _ (env : Env) (compare : Tree → Tree → Task Apart (Unit {0})) (hc : (
       answers = only_answer (Turns env compare a b) K r L (h.steps + t.steps) (answers_turns a b) (by (equals a b || is_known K a b) r L t.steps refl t.answers.is);
       takes = record { left = omega (arith, h.takes.left, t.takes.left); spent = omega (arith, h.takes.spent, t.takes.spent) };
     };
-    out = λ new t. record { none = λ r L n w. late a b K r L n h.answers.only t.none w; left = t.left };
+    out = λ new t. record { none = λ r L n w. late a b K r L n h.answers.only t.none w; left = t.left; takes = takes_all old mid new h.steps h.takes t.takes };
   }
     where
       by : (t : Bool) (r : Answer Apart (Unit {0})) (L : Pairs) (n : ℕ) → (equals a b || is_known K a b) ≡ t → Turns env compare pair.0 pair.1 M r L n → Turns env compare a b K r L (h.steps + n)
@@ -163,7 +164,7 @@ module _ (env : Env) (compare : Tree → Tree → Task Apart (Unit {0})) (hc : (
   }
 
   pub comparison_out : (a b : Tree) (K : Pairs) (old new : Work) → RunsOut (Turns env compare a b) K old new → RunsOut (comparison env compare a b) K old new
-  comparison_out a b K old new h = record { none = λ r L n c. h.none r c.found n c.turns; left = h.left }
+  comparison_out a b K old new h = record { none = λ r L n c. h.none r c.found n c.turns; left = h.left; takes = h.takes }
 
 -- the comparison at a nesting up to 1,000
 pub at_nesting : (env : Env) (nest : ℕ) (a b : Tree) (P : Task Apart (Unit {0}) → Type 0) → nest ≤ 1000 → P (comparison env (Compares env (nest + 1)) a b) → P (Compares env nest a b)

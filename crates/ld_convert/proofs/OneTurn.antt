@@ -42,7 +42,7 @@ pub reach_stops : (E : Type 0) (way : Way) (K : Pairs) (from : Tree) (bound : �
     → cost.Answers way from bound items known old new (Err s) → StopsTask {E = E} (reaches way) K K old new s
 reach_stops E way K from bound items known old new stop.Spent once h =
     let t = answers_task E way K from bound items known old new (Err stop.Spent) once h in
-    record { none = t.none; left = t.left }
+    record { none = t.none; left = t.left; takes = t.takes }
 reach_stops E way K from bound items known old new stop.High once h =
     let t = answers_task E way K from bound items known old new (Err stop.High) once h in
     record { steps = t.steps; answers = t.answers; takes = t.takes }

@@ -11,6 +11,10 @@ use Rattle.ld_convert.proofs.Agreeing.{gives_injective, no_value, Passes, value_
 pub takes_both : (a b d : Work) (i j : ℕ) → Takes a b i → Takes b d j → Takes a d (i + j)
 takes_both a b d i j s t = record { left = omega (arith, s.left, t.left); spent = omega (arith, s.spent, t.spent) }
 
+-- some steps, and then all that are left
+pub takes_all : (a b d : Work) (i : ℕ) → Takes a b i → Takes b d b.left → Takes a d a.left
+takes_all a b d i s t = record { left = omega (arith, s.left, t.left); spent = omega (arith, s.left, s.spent, t.left, t.spent) }
+
 -- a task that gives a value, and what goes on with it
 pub comes_then : {E X Y : Type 0} (p : Task E X) (f : X → Task E Y) (x : X) (K M L : Pairs) (r : Answer E Y) (a b d : Work) → Comes p K (Gives x) M a b → Comes (f x) M r L b d → Comes (p >>= f) K r L a d
 comes_then p f x K M L r a b d s t = record {
@@ -34,6 +38,7 @@ out_first p f K a b h = record {
     | ends stop first e ↦ h.none stop L n first
   ];
   left = h.left;
+  takes = h.takes;
 }
 
 -- the second task runs out
@@ -44,6 +49,7 @@ out_then {E = E} {X = X} {Y = Y} p f x K M a b d s h = record {
     | ends stop first e ↦ absurd (no_value (subst (λ v. Ends v r) (s.answers.only stop L n first).0 e))
   ];
   left = h.left;
+  takes = takes_all a b d s.steps s.takes h.takes;
 }
   where
     late : (r : Answer E Y) (L : Pairs) (n : ℕ) (y : X) (N : Pairs) (i j : ℕ) → p K (Gives y) N i → f y N r L j → n ≡ i + j → a.left < n
@@ -54,7 +60,7 @@ out_then {E = E} {X = X} {Y = Y} p f x K M a b d s h = record {
         omega (arith, sum, one.2, l, s.takes.left)
 
 pub out_faults : {E F X : Type 0} (g : E → F) (p : Task E X) (K : Pairs) (a b : Work) → RunsOut p K a b → RunsOut (faults_by g p) K a b
-out_faults g p K a b h = record { none = λ r L n w. h.none w.0 L n w.1; left = h.left }
+out_faults g p K a b h = record { none = λ r L n w. h.none w.0 L n w.1; left = h.left; takes = h.takes }
 
 -- the task that goes on after a fault runs out before one
 pub or_else_out : {E F X : Type 0} (p : Task E X) (q : Task F X) (K : Pairs) (a b : Work) → RunsOut p K a b → RunsOut (or_else p q) K a b
@@ -66,6 +72,7 @@ or_else_out p q K a b h = record {
     | or_else.second e M i j first second sum ↦ let l = h.none (Fails e) M i first in omega (arith, sum, l)
   ];
   left = h.left;
+  takes = h.takes;
 }
 
 gives_fails : {E X : Type 0} {x : X} {e : E} → ◌≡◌ {A = Answer E X} (Gives x) (Fails e) → ⊥
@@ -96,7 +103,7 @@ or_else_then {E = E} {F = F} {X = X} p q e K M L r a b d s t = record {
 
 -- what goes on after a fault runs out
 pub or_else_out_then : {E F X : Type 0} (p : Task E X) (q : Task F X) (e : E) (K M : Pairs) (a b d : Work) → Comes p K (Fails e) M a b → RunsOut q M b d → RunsOut (or_else p q) K a d
-or_else_out_then {E = E} {F = F} {X = X} p q e K M a b d s t = record { none = λ v N m w. late v N m w; left = t.left }
+or_else_out_then {E = E} {F = F} {X = X} p q e K M a b d s t = record { none = λ v N m w. late v N m w; left = t.left; takes = takes_all a b d s.steps s.takes t.takes }
   where
     late : (v : Answer F X) (N : Pairs) (m : ℕ) → or_else p q K v N m → a.left < m
     late v N m (or_else.first x first f) = absurd (gives_fails (s.answers.only (Gives x) N m first).0)

@@ -23,7 +23,7 @@ use Rattle.ld_convert.specs.Compares.{unfolded}
 use Rattle.ld_convert.specs.Account.{Comes, StopsTask}
 use Rattle.ld_convert.specs.Sides.{sides_by, UnfoldsIf, Stays, IsReached, UnfoldsAs}
 use Rattle.ld_convert.specs.declared.sides.Sides.{Sides}
-use Rattle.ld_convert.proofs.Spending.{comes_then}
+use Rattle.ld_convert.proofs.Spending.{takes_all, comes_then}
 use Rattle.ld_convert.proofs.Carrying.{Carries, carries_then, carries_stop, first_stops}
 use Rattle.ld_convert.proofs.Ready.{tree_later, term_later, equal_later}
 
@@ -40,7 +40,7 @@ side_comes env t K u old new h =
 side_stops : (env : Env) (t : Tree) (K : Pairs) (old new : Work) (s : Stop) → Stops (Unfold env t) s old new → StopsTask {E = Apart} {X = Tree} (reaches (Unfold env t)) K K old new s
 side_stops env t K old new stop.Spent h =
     let c = runs_out_task {E = Apart} (Unfold env t) K old new h in
-    record { none = c.none; left = c.left }
+    record { none = c.none; left = c.left; takes = c.takes }
 side_stops env t K old new stop.High h =
     let c = comes_task {E = Apart} (Unfold env t) K TooHigh old new (unfold_once env t) h in
     record { steps = c.steps; answers = c.answers; takes = c.takes }
@@ -68,7 +68,7 @@ no_step p K old mid n h e = record {
     answers = t.answers;
     takes = record { left = omega (arith, h.left, e, t.takes.left); spent = omega (arith, h.spent, e, t.takes.spent) };
   };
-  out = λ new t. record { none = λ r L m w. let l = t.none r L m w in omega (arith, h.left, e, l); left = t.left };
+  out = λ new t. record { none = λ r L m w. let l = t.none r L m w in omega (arith, h.left, e, l); left = t.left; takes = takes_all old mid new n h t.takes };
 }
 
 -- after the left side comes to a tree, the right side is left

@@ -19,10 +19,11 @@ pub record Comes {E X : Type 0} (p : Task E X) (K : Pairs) (r : Answer E X) (K' 
   pub answers : Answers p K r K' steps
   pub takes : Takes old new steps
 
--- The task has no answer by the steps that were left.
+-- The task has no answer by the steps that were left, and all of these were made.
 pub record RunsOut {E X : Type 0} (p : Task E X) (K : Pairs) (old new : Work) : Type 0 where
   pub none : (r : Answer E X) (L : Pairs) (n : ℕ) → p K r L n → old.left < n
   pub left : new.left ≡ 0
+  pub takes : Takes old new old.left
 
 -- why a task stops; want of memory is free
 abbrev pub StopsTask : {E X : Type 0} → Task E X → (K K' : Pairs) → (old new : Work) → Stop → Type 0

@@ -22,10 +22,11 @@ pub record TaskComes {E : Type 0} (p : Task E Tree) (K : Pairs) (r : Answer E Tr
   pub answers : task.Answers p K r K steps
   pub takes : Takes old new steps
 
--- The task has no answer by the steps that were left.
+-- The task has no answer by the steps that were left, and all of these were made.
 pub record TaskRunsOut {E : Type 0} (p : Task E Tree) (K : Pairs) (old new : Work) : Type 0 where
   pub none : (r : Answer E Tree) (L : Pairs) (n : ℕ) → p K r L n → old.left < n
   pub left : new.left ≡ 0
+  pub takes : Takes old new old.left
 
 abbrev pub AnswersTask : {E : Type 0} → Task E Tree → Pairs → List Item → (old new : Work) → Result (TermId × EqId) Stop → Type 0
 AnswersTask p K items old new (Ok t) = TaskComes p K (Gives (tree_at items t.0)) old new
@@ -45,7 +46,7 @@ comes_task way K r old new once c = record {
 }
 
 pub runs_out_task : {E : Type 0} (way : Way) (K : Pairs) (old new : Work) → cost.IsSpent way old new → TaskRunsOut {E = E} (reaches way) K old new
-runs_out_task way K old new h = record { none = λ r L n p. h.none p.0 n p.1; left = h.left }
+runs_out_task way K old new h = record { none = λ r L n p. h.none p.0 n p.1; left = h.left; takes = h.takes }
 
 pub answers_task : (E : Type 0) (way : Way) (K : Pairs) (from : Tree) (bound : ℕ) (items : List Item) (known : Known) (old new : Work) (result : Result (TermId × EqId) Stop)
     → Once way → cost.Answers way from bound items known old new result → AnswersTask {E = E} (reaches way) K items old new result

@@ -233,9 +233,13 @@ pub entries_later : (a b : List Item) (j k : List Kept) (o : Option (List Named)
 entries_later a b j k None goes h = tt
 entries_later a b j k (Some n) goes h = (env_of-later a b n goes.extends h.1 ∙ h.0 ∙ sym goes.adds.env, live-later a b n goes.extends h.1)
 
+-- steps after which none is left are all that were left
+takes_rest : (old new : Work) (n : ℕ) → Takes old new n → new.left ≡ 0 → Takes old new old.left
+takes_rest old new n h empty = record { left = omega (arith, empty); spent = omega (arith, empty, h.left, h.spent) }
+
 -- What is answered of a whole term, whose room is that of small ones.
 pub stops_whole : (next : Tree → Option Tree) (from : Tree) (old new : Work) (s : Stop) → StopsIn next 500 from s old new → Stops (Runs next from) s old new
-stops_whole next from old new stop.Spent h = record { none = λ r m run. (let x = wants_more h.walks h.is run in let y = h.takes.left in let z = h.left in omega arith); left = h.left }
+stops_whole next from old new stop.Spent h = record { none = λ r m run. (let x = wants_more h.walks h.is run in let y = h.takes.left in let z = h.left in omega arith); left = h.left; takes = takes_rest old new h.steps h.takes h.left }
 stops_whole next from old new stop.Nested h = h
 stops_whole next from old new stop.High h = record {
   steps = h.steps + 1;

@@ -23,10 +23,11 @@ pub record Comes (way : Way) (r : Reached) (old new : Work) : Type 0 where
   pub comes : way r steps
   pub takes : Takes old new steps
 
--- The way comes to nothing by the steps that were left.
+-- The way comes to nothing by the steps that were left, and all of these were made.
 pub record IsSpent (way : Way) (old new : Work) : Type 0 where
   pub none : (r : Reached) (n : ℕ) → way r n → old.left < n
   pub left : new.left ≡ 0
+  pub takes : Takes old new old.left
 
 -- Why a call stops. Want of memory is free; no call here is nested.
 abbrev pub Stops : Way → Stop → (old new : Work) → Type 0
