@@ -184,16 +184,8 @@ fn walk(
 {
     let mut equals = Vec::new(alloc);
     'parts: for part in parts {
-        match compare(
-            alloc,
-            bank,
-            env,
-            deriv,
-            part.left,
-            part.right,
-            nest + 1,
-            job,
-        )? {
+        let (a, b) = (part.left, part.right);
+        match compare(alloc, bank, env, deriv, a, b, nest + 1, job)? {
             Compared::Same(equal) => equals.push(equal).map_err(|_| NoMemory)?,
             Compared::Apart { left, right, under } => {
                 return Ok(Walked::Apart {
@@ -233,18 +225,10 @@ pub(crate) fn follow(
         }
         Turned::Done(apart) => Ok(Turned::Done(apart)),
         Turned::Next(next) => {
-            let first = deriv.emit_eq(
-                bank,
-                ends.0,
-                next.left,
-                EqStep::Trans(led.first, next.first),
-            )?;
-            let second = deriv.emit_eq(
-                bank,
-                ends.1,
-                next.right,
-                EqStep::Trans(led.second, next.second),
-            )?;
+            let left = EqStep::Trans(led.first, next.first);
+            let first = deriv.emit_eq(bank, ends.0, next.left, left)?;
+            let right = EqStep::Trans(led.second, next.second);
+            let second = deriv.emit_eq(bank, ends.1, next.right, right)?;
             Ok(Turned::Next(Led {
                 left: next.left,
                 right: next.right,
