@@ -1,78 +1,27 @@
--- The rules by which the judgements of the tests follow, and the lines that they make.
-use Rattle.std.proofs.Common.{◌≡◌, ◌<◌, ◌≤◌, ◌++◌, ◌∷◌, [], true, false, length, Contains, All, Some, None, Option, ℕ, zero, suc, List, refl, ap, sym, ◌∙◌, subst, arith}
+-- The lines that the judgements of the tests make.
+use Rattle.std.proofs.Common.{◌≡◌, ◌<◌, ◌≤◌, ◌++◌, ◌∷◌, [], true, length, Contains, All, Some, None, Option, ℕ, zero, suc, List, refl, ap, sym, ◌∙◌, subst, arith}
 use Rattle.std.proofs.lemmas.List.Elements.{All-nil, All-cons}
-use mathlib.Core.Path.{ap₂}
 use Rattle.ld_terms.specs.Tree.{Tree, Trees, Star, Const, Nil, ◌▸◌}
-use Rattle.ld_terms.specs.Put.{lift}
 use Rattle.ld_terms.specs.Record.{params_at}
 use Rattle.ld_terms.specs.Named.{IsNamed}
 use Rattle.ld_terms.specs.Derivable.{IsSort}
 use Rattle.ld_terms.specs.Item.{Item, tree}
 use Rattle.ld_terms.specs.Bank.{StandsFor, IsTermAt, Extends, tree_at, listed}
 use Rattle.ld_terms.specs.declared.bank.TermId.{TermId}
-use Rattle.ld_terms.specs.Known.{Known, Judgement, judgement_at, line_entry, primitive_entry}
+use Rattle.ld_terms.specs.Known.{Known, Judgement, line_entry, primitive_entry}
 use Rattle.ld_terms.specs.Entry.{Env, IsFresh, Defined}
 use Rattle.ld_env.specs.declared.env.Entry.{Entry}
-use Rattle.ld_env.specs.Named.{Named, named, names_of}
-use Rattle.ld_env.specs.Entries.{body_of, env_of, AreLive, IsLiveEntry}
-use Rattle.ld_env.proofs.CallerLemmas.{is_fresh, length-env_of, live-push}
+use Rattle.ld_env.specs.Named.{Named, names_of}
+use Rattle.ld_env.specs.Entries.{body_of, env_of, IsLiveEntry}
+use Rattle.ld_env.proofs.CallerLemmas.{is_fresh, length-env_of}
 use Rattle.ld_record.specs.declared.record.JudgeId.{JudgeId}
-use Rattle.ld_record.specs.declared.record.Judge.{Judge}
-use Rattle.ld_record.specs.Follows.{ByVar, ByWeak}
 use Rattle.ld_record.specs.Kept.{FitsEntry}
-use Rattle.ld_record.specs.Growth.{Knows, KnowsContext, Adds, over_first}
-use Rattle.ld_record.proofs.CallerLemmas.{Says}
+use Rattle.ld_record.specs.Growth.{Knows, Adds, over_first}
 use Rattle.ld_reduce.proofs.Going.{term_of}
-use Rattle.ld_reduce.specs.Samples.{sort, inner_sort, variable, IsOf}
+use Rattle.ld_reduce.specs.Samples.{inner_sort, variable, IsOf}
 use Rattle.ld_convert.specs.Samples.{lines, IsPrimitiveOf}
 
--- the numbers are those of a judgement over no entries
-pub says : (items : List Item) (known : Known) (judge : Judge) (s : Judgement) → judge.entries ≡ 0 → s.entries ≡ 0 → KnowsContext known judge.ctx s.context → StandsFor items judge.term s.term
-    → StandsFor items judge.of s.type → Says items known judge s
-says items known judge s first none context term type = record { entries = first ∙ sym none; within = omega (arith, none); context = context; term = term; type = type }
-
-module _ (known : Known) where
-  sorted : (j : JudgeId) (s : Judgement) → Knows known j s → IsSort s.type → IsSort (judgement_at known j.0).type
-  sorted j s h is = let P : Tree → Type 0 = λ t. IsSort t in subst P (sym (ap (λ (q : Judgement). q.type) h.is)) is
-
-  pub by_weak : (n m : JudgeId) (a b : Judgement) → Knows known n a → Knows known m b → a.entries ≡ 0 → b.entries ≡ 0 → b.context ≡ a.context → IsSort b.type
-      → ByWeak known (record { entries = 0; context = a.context ▸ b.term; term = lift a.term 1 0; type = lift a.type 1 0 }) n m
-  by_weak n m a b first second none none' same is = record {
-    first = record { live = first.live; entries = ap (λ (q : Judgement). q.entries) first.is ∙ none };
-    second = record { live = second.live; entries = ap (λ (q : Judgement). q.entries) second.is ∙ none' };
-    same = ap (λ (q : Judgement). q.context) second.is ∙ same ∙ sym (ap (λ (q : Judgement). q.context) first.is);
-    sort = sorted m b second is;
-    context = sym (ap₂ ◌▸◌ (ap (λ (q : Judgement). q.context) first.is) (ap (λ (q : Judgement). q.term) second.is));
-    term = sym (ap (λ (q : Judgement). lift q.term 1 0) first.is);
-    type = sym (ap (λ (q : Judgement). lift q.type 1 0) first.is);
-  }
-
-  pub by_var : (n : JudgeId) → Knows known n sort → ByVar known variable n
-  by_var n premise = record {
-    premise = record { live = premise.live; entries = ap (λ (q : Judgement). q.entries) premise.is };
-    sort = sorted n sort premise IsSort.box;
-    context = sym (ap (λ (q : Judgement). q.context ▸ q.term) premise.is);
-    term = refl;
-    type = sym (ap (λ (q : Judgement). lift q.term 1 0) premise.is);
-  }
-
--- a judgement over all entries may be a line of a new name
-pub line_fits : (items : List Item) (env : List Named) (old known : Known) (name new : List ℕ) (over : JudgeId) (s : Judgement) (n : ℕ) → new ≡ name → 0 < length name → length name ≤ 255
-    → (Contains (names_of env) new → ⊥) → env_of items env ≡ old.env → Adds old known → n ≡ length env → Knows known over (over_first s n) → FitsEntry known name over false
-line_fits items env old known name new over s n same some short free is adds count h =
-    let all : env_of items env ≡ known.env = is ∙ sym adds.env in
-    record {
-      live = h.live;
-      may = record {
-        free = record { some = some; short = short; fresh = subst (IsFresh name) all (is_fresh items env name (λ c. free (subst (Contains (names_of env)) (sym same) c))) };
-        over = ap (λ (q : Judgement). q.entries) h.is ∙ count ∙ sym (length-env_of items env) ∙ ap length all;
-      };
-    }
-
-pub line_live : (items : List Item) (env later : List Named) (name : List ℕ) (entry : Entry) → AreLive items env → IsLiveEntry items entry → later ≡ env ++ named name entry ∷ [] → AreLive items later
-line_live items env later name entry live h e = subst (AreLive items) (sym e) (live-push items env (named name entry) live h)
-
--- or a primitive, where its type is a sort
+-- a judgement of a sort over all entries may be a primitive of a new name
 pub primitive_fits : (items : List Item) (env : List Named) (old known : Known) (name new : List ℕ) (over : JudgeId) (s : Judgement) (n : ℕ) → new ≡ name → 0 < length name → length name ≤ 255
     → (Contains (names_of env) new → ⊥) → env_of items env ≡ old.env → Adds old known → n ≡ length env → Knows known over (over_first s n) → IsSort s.type → FitsEntry known name over true
 primitive_fits items env old known name new over s n same some short free is adds count h kind =

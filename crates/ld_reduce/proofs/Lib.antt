@@ -9,4 +9,4 @@ mod Redexes
 mod Looping
 pub mod Once
 pub mod CallerLemmas
-mod Sampled
+pub mod Sampled

@@ -1,14 +1,11 @@
--- The rules by which the judgements of the tests follow.
+-- What the judgements of the tests say, and the lines that they make.
 use Rattle.std.proofs.Common.{◌≡◌, ◌<◌, ◌≤◌, ◌++◌, ◌∷◌, [], false, length, Contains, All, Some, ℕ, List, refl, ap, sym, ◌∙◌, subst, arith}
 use Rattle.std.proofs.lemmas.List.Elements.{All-nil, All-cons}
-use mathlib.Core.Path.{ap₂}
-use Rattle.ld_terms.specs.Tree.{Tree, Star, Var, Lam, Pi, Nil, ◌▸◌}
-use Rattle.ld_terms.specs.Put.{lift}
-use Rattle.ld_terms.specs.Derivable.{IsSort}
+use Rattle.ld_terms.specs.Tree.{Tree, Star, Var, Nil, ◌▸◌}
 use Rattle.ld_terms.specs.Item.{Item, tree}
 use Rattle.ld_terms.specs.Bank.{StandsFor, IsTermAt, Extends, tree_at, listed}
 use Rattle.ld_terms.specs.declared.bank.TermId.{TermId}
-use Rattle.ld_terms.specs.Known.{Known, Judgement, judgement_at, line_entry}
+use Rattle.ld_terms.specs.Known.{Known, Judgement, line_entry}
 use Rattle.ld_terms.specs.Entry.{Env, IsFresh, Defined}
 use Rattle.ld_env.specs.declared.env.Entry.{Entry}
 use Rattle.ld_env.specs.Named.{Named, named, names_of}
@@ -16,67 +13,16 @@ use Rattle.ld_env.specs.Entries.{body_of, env_of, AreLive, IsLiveEntry}
 use Rattle.ld_env.proofs.CallerLemmas.{is_fresh, length-env_of, live-push}
 use Rattle.ld_record.specs.declared.record.JudgeId.{JudgeId}
 use Rattle.ld_record.specs.declared.record.Judge.{Judge}
-use Rattle.ld_record.specs.Follows.{ByVar, ByWeak, ByForm, ByAbst}
 use Rattle.ld_record.specs.Kept.{FitsEntry}
 use Rattle.ld_record.specs.Growth.{Knows, KnowsContext, Adds, over_first}
 use Rattle.ld_record.proofs.CallerLemmas.{Says}
 use Rattle.ld_reduce.proofs.Going.{term_of}
-use Rattle.ld_reduce.specs.Samples.{sort, inner_sort, variable, outer_variable, product, identity, lines, IsOf}
+use Rattle.ld_reduce.specs.Samples.{outer_variable, product, identity, lines, IsOf}
 
 -- the numbers are those of a judgement over no entries
 pub says : (items : List Item) (known : Known) (judge : Judge) (s : Judgement) → judge.entries ≡ 0 → s.entries ≡ 0 → KnowsContext known judge.ctx s.context → StandsFor items judge.term s.term
     → StandsFor items judge.of s.type → Says items known judge s
 says items known judge s zero none context term type = record { entries = zero ∙ sym none; within = omega (arith, none); context = context; term = term; type = type }
-
-module _ (known : Known) where
-  sorted : (j : JudgeId) (s : Judgement) → Knows known j s → IsSort s.type → IsSort (judgement_at known j.0).type
-  sorted j s h is = let P : Tree → Type 0 = λ t. IsSort t in subst P (sym (ap (λ (q : Judgement). q.type) h.is)) is
-
-  pub by_weak : (n m : JudgeId) (a b : Judgement) → Knows known n a → Knows known m b → a.entries ≡ 0 → b.entries ≡ 0 → b.context ≡ a.context → IsSort b.type
-      → ByWeak known (record { entries = 0; context = a.context ▸ b.term; term = lift a.term 1 0; type = lift a.type 1 0 }) n m
-  by_weak n m a b first second none none' same is = record {
-    first = record { live = first.live; entries = ap (λ (q : Judgement). q.entries) first.is ∙ none };
-    second = record { live = second.live; entries = ap (λ (q : Judgement). q.entries) second.is ∙ none' };
-    same = ap (λ (q : Judgement). q.context) second.is ∙ same ∙ sym (ap (λ (q : Judgement). q.context) first.is);
-    sort = sorted m b second is;
-    context = sym (ap₂ ◌▸◌ (ap (λ (q : Judgement). q.context) first.is) (ap (λ (q : Judgement). q.term) second.is));
-    term = sym (ap (λ (q : Judgement). lift q.term 1 0) first.is);
-    type = sym (ap (λ (q : Judgement). lift q.type 1 0) first.is);
-  }
-
-  pub by_var : (n : JudgeId) → Knows known n sort → ByVar known variable n
-  by_var n premise = record {
-    premise = record { live = premise.live; entries = ap (λ (q : Judgement). q.entries) premise.is };
-    sort = sorted n sort premise IsSort.box;
-    context = sym (ap (λ (q : Judgement). q.context ▸ q.term) premise.is);
-    term = refl;
-    type = sym (ap (λ (q : Judgement). lift q.term 1 0) premise.is);
-  }
-
-  pub by_form : (n m : JudgeId) → Knows known n sort → Knows known m inner_sort → ByForm known product n m
-  by_form n m first second = record {
-    first = record { live = first.live; entries = ap (λ (q : Judgement). q.entries) first.is };
-    second = record { live = second.live; entries = ap (λ (q : Judgement). q.entries) second.is };
-    outer = ap (λ (q : Judgement). q.context) first.is;
-    inner = ap (λ (q : Judgement). q.context) second.is ∙ ap (λ (t : Tree). Nil ▸ t) (sym (ap (λ (q : Judgement). q.term) first.is));
-    domain = sorted n sort first IsSort.box;
-    range = sorted m inner_sort second IsSort.box;
-    term = sym (ap₂ Pi (ap (λ (q : Judgement). q.term) first.is) (ap (λ (q : Judgement). q.term) second.is));
-    type = sym (ap (λ (q : Judgement). q.type) second.is);
-  }
-
-  pub by_abst : (n m : JudgeId) → Knows known n variable → Knows known m product → ByAbst known identity n m
-  by_abst n m body formed = record {
-    first = record { live = body.live; entries = ap (λ (q : Judgement). q.entries) body.is };
-    second = record { live = formed.live; entries = ap (λ (q : Judgement). q.entries) formed.is };
-    outer = ap (λ (q : Judgement). q.context) formed.is;
-    domain = Star;
-    inner = ap (λ (q : Judgement). q.context) body.is;
-    product = ap (λ (q : Judgement). q.term) formed.is ∙ sym (ap (λ (q : Judgement). Pi Star q.type) body.is);
-    sort = sorted m product formed IsSort.box;
-    term = sym (ap (λ (q : Judgement). Lam Star q.term) body.is);
-    type = sym (ap (λ (q : Judgement). Pi Star q.type) body.is);
-  }
 
 -- a judgement over all entries may be a line of a new name
 pub line_fits : (items : List Item) (env : List Named) (old known : Known) (name new : List ℕ) (over : JudgeId) (s : Judgement) (n : ℕ) → new ≡ name → 0 < length name → length name ≤ 255

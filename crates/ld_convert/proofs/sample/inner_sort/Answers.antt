@@ -1,6 +1,6 @@
 use Rattle.std.proofs.Common.{◌≡◌, List, refl, ap, sym, subst, IfOk}
 use mathlib.Core.Path.{ap₂}
-use Rattle.ld_terms.specs.Tree.{Trees, Star, Nil, ◌▸◌}
+use Rattle.ld_terms.specs.Tree.{Trees, Star, Box, Nil, ◌▸◌}
 use Rattle.ld_terms.specs.Item.{Item, tree, IsOne}
 use Rattle.ld_terms.specs.Derivable.{IsSort}
 use Rattle.ld_terms.specs.Known.{Judgement, context_at}
@@ -13,8 +13,9 @@ use Rattle.ld_record.specs.Kept.{known_of}
 use Rattle.ld_record.specs.Growth.{Knows, KnowsContext}
 use Rattle.ld_record.proofs.Growing.{knows_later, judged_by}
 use Rattle.ld_record.proofs.CallerLemmas.{said, node_fits, empty_known}
+use Rattle.ld_record.proofs.Following.{by_weak}
 use Rattle.ld_reduce.specs.Samples as sample
-use Rattle.ld_convert.proofs.Sampled.{says, by_weak}
+use Rattle.ld_reduce.proofs.Sampled.{says}
 use Rattle.ld_convert.proofs.sample.inner_sort.Goals as goal
 
 pub extend-requires-clause-fits : goal.extend-requires-clause-fits
@@ -38,7 +39,7 @@ emit-requires-clause-fits c =
     node_fits c.args.bank.now known _ sample.inner_sort (Weak c.args.j c.args.j)
     (says _ _ _ sample.inner_sort refl refl (extended c.args.bank.now c.args.deriv.now c.extend.new.self c.empty-empty.result c.in_ok-ctx.ctx c.args.star c.empty-empty.ensures c.in_ok-ctx.ensures.number c.requires.star)
     c.requires.star c.requires.over)
-    (by_weak known c.args.j c.args.j sample.sort sample.sort here here refl refl refl IsSort.box)
+    (by_weak known c.args.j c.args.j 0 Nil Star Box Star Box IsSort.box here here)
 
 pub returns-clause-number : goal.returns-clause-number
 returns-clause-number c =

@@ -2,7 +2,7 @@ use Rattle.std.proofs.Common.{◌≡◌, Ok, Err}
 use Rattle.ld_terms.specs.Known.{judgement_at}
 use Rattle.ld_record.specs.Kept.{known_of}
 use Rattle.ld_env.specs.declared.env.EnvFault.{EnvFault}
-use Rattle.ld_convert.proofs.Sampled.{line_fits, line_live}
+use Rattle.ld_reduce.proofs.Sampled.{line_fits, line_live}
 use Rattle.ld_convert.proofs.sample.line.Goals as goal
 
 no_fault : {A : Type 0} (x : A) (e : EnvFault) → Ok x ≡ Err e → ⊥

@@ -1,6 +1,6 @@
 use Rattle.std.proofs.Common.{refl, ap, subst, ◌∙◌}
 use mathlib.Core.Path.{ap₂}
-use Rattle.ld_terms.specs.Tree.{Trees, ◌▸◌}
+use Rattle.ld_terms.specs.Tree.{Trees, Star, Box, Var, Nil, ◌▸◌}
 use Rattle.ld_terms.specs.Item.{tree}
 use Rattle.ld_terms.specs.Derivable.{IsSort}
 use Rattle.ld_terms.specs.Known.{Judgement}
@@ -9,8 +9,9 @@ use Rattle.ld_record.specs.Kept.{known_of}
 use Rattle.ld_record.specs.Growth.{KnowsContext}
 use Rattle.ld_record.proofs.Growing.{knows_later}
 use Rattle.ld_record.proofs.CallerLemmas.{node_fits}
+use Rattle.ld_record.proofs.Following.{by_weak}
 use Rattle.ld_reduce.specs.Samples as sample
-use Rattle.ld_reduce.proofs.Sampled.{says, by_weak}
+use Rattle.ld_reduce.proofs.Sampled.{says}
 use Rattle.ld_reduce.proofs.sample.outer_variable.Goals as goal
 
 pub emit-requires-clause-fits : goal.emit-requires-clause-fits
@@ -21,4 +22,4 @@ emit-requires-clause-fits c =
     let P : Trees → Type 0 = λ us. KnowsContext known c.in_ok-ctx.ctx us in
     let context = subst P (ap₂ ◌▸◌ (ap (λ (q : Judgement). q.context) (c.judge.ensures.is ∙ c.requires.inner.is)) (ap tree c.requires.star.item)) c.in_ok-ctx.ensures.number in
     node_fits c.args.bank.now known _ sample.outer_variable (Weak c.args.j c.args.inner) (says _ _ _ sample.outer_variable refl refl context c.requires.outer c.requires.star)
-    (by_weak known c.args.j c.args.inner sample.variable sample.inner_sort first second refl refl refl IsSort.box)
+    (by_weak known c.args.j c.args.inner 0 (Nil ▸ Star) (Var 0) Star Star Box IsSort.box first second)
