@@ -1,40 +1,16 @@
 -- What a theory stands for, as terms and judgements are added, and then an entry or a flag.
-use Rattle.std.proofs.Common.{◌≡◌, ◌++◌, ◌∷◌, [], ℕ, List, length, ap, sym, ◌∙◌, subst}
+use Rattle.std.proofs.Common.{◌≡◌, ◌++◌, ◌∷◌, [], ℕ, List, ap, sym, ◌∙◌, subst}
 use Rattle.ld_terms.specs.Tree.{Tree, Star, Trees, ◌▸◌}
 use Rattle.ld_terms.specs.Entry.{Env, Entry}
-use Rattle.ld_terms.specs.Item.{tree}
 use Rattle.ld_terms.specs.Bank.{tree_at, IsTermAt}
 use Rattle.ld_terms.specs.Known.{Judgement, EntryNote, FlagNote, line_entry, primitive_entry}
 use Rattle.ld_terms.specs.declared.bank.TermId.{TermId}
-use Rattle.ld_terms.proofs.Banks.{extends_trans, term_at_later}
 use Rattle.ld_record.specs.declared.record.JudgeId.{JudgeId}
 use Rattle.ld_record.specs.Growth.{Knows}
-use Rattle.ld_record.proofs.Keeping.{begins_trans}
-use Rattle.ld_record.proofs.Growing.{adds_trans}
 use Rattle.ld_infer.specs.Standing.{Standing, known, env, here, Continues, KnowsSort, AddsEntry, AddsFlag}
 use Rattle.ld_infer.specs.Infers.{HasSort}
+use Rattle.ld_infer.proofs.Going.{here_stays, tree_stays}
 use Rattle.ld_defrules.specs.Judged.{primitive_of, line_of}
-
-pub continues_trans : (a b c : Standing) → Continues a b → Continues b c → Continues a c
-continues_trans a b c h k = record {
-  items = extends_trans a.items b.items c.items h.items k.items;
-  kept = begins_trans a.kept b.kept c.kept h.kept k.kept;
-  adds = adds_trans (known a) (known b) (known c) h.adds k.adds;
-  entries = k.entries ∙ h.entries;
-  context = k.context ∙ h.context;
-}
-
--- the judgement of a term in the context, over all entries, is the same later
-pub here_stays : (a b : Standing) (t type : Tree) → Continues a b → here b t type ≡ here a t type
-here_stays a b t type h =
-    ap (λ (e : ℕ). record (here b t type) { entries = e }) (ap length h.adds.env)
-    ∙ ap (λ (ctx : Trees). record (here a t type) { context = ctx }) h.context
-
-pub term_stays : (a b : Standing) (t : TermId) → Continues a b → IsTermAt a.items t → IsTermAt b.items t
-term_stays a b t h at = term_at_later a.items b.items t h.items at
-
-pub tree_stays : (a b : Standing) (t : TermId) → Continues a b → IsTermAt a.items t → tree_at b.items t ≡ tree_at a.items t
-tree_stays a b t h at = ap tree (h.items.kept t at.live)
 
 -- what is said of a term over the entries and the context later was so before
 pub said_before : (P : Env → Trees → Tree → Type 0) (a b : Standing) (t : TermId) → Continues a b → IsTermAt a.items t → P (env b) b.context (tree_at b.items t) → P (env a) a.context (tree_at a.items t)

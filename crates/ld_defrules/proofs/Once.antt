@@ -6,7 +6,7 @@ use Rattle.ld_terms.specs.Tests.{equals, is_box}
 use Rattle.ld_infer.specs.declared.failure.RuleName.{RuleName}
 use Rattle.ld_infer.specs.declared.failure.RuleName.TheVariants.{Weak, Def, DefPrim}
 use Rattle.ld_infer.specs.declared.failure.PathStep.TheVariants.{Of, Body}
-use Rattle.ld_reduce.specs.Task.{Fails, gives, ◌>>=◌, ◌>>◌, faults_by}
+use Rattle.ld_reduce.specs.Task.{Fails, gives, ◌>>◌}
 use Rattle.ld_convert.specs.Apart.{apart}
 use Rattle.ld_convert.specs.Laws.{AnswersOnce}
 use Rattle.ld_convert.proofs.Agreeing.{at_once, gives_once, bind_once, faults_once}

@@ -19,7 +19,8 @@ use Rattle.ld_infer.specs.Infers.{IsTyped}
 use Rattle.ld_infer.proofs.Staying.{known_here}
 use Rattle.ld_defrules.specs.declared.ItemFault.{ItemFault}
 use Rattle.ld_defrules.specs.Judged.{type_judged, body_judged, same_as_stated, line_judged, ItemStops, TypesLine}
-use Rattle.ld_defrules.proofs.Going.{continues_trans, here_stays, term_stays, tree_stays, said_before}
+use Rattle.ld_infer.proofs.Going.{continues_trans, here_stays, term_stays, tree_stays}
+use Rattle.ld_defrules.proofs.Going.{said_before}
 use Rattle.ld_defrules.proofs.Lines.{body_stops, line_accepted, line_same, line_faulted, same_items}
 
 module _ (a b c : Standing) (body of : TermId) (sort : Tree) (before between after : Account) (goes : Continues a b) (more : Continues b c)

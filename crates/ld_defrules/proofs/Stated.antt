@@ -19,13 +19,12 @@ use Rattle.ld_infer.specs.Standing.{Standing, known, env, here, Continues, Knows
 use Rattle.ld_infer.specs.Infers.{StopsBy, refusal_of}
 use Rattle.ld_infer.proofs.Accounts.{comes_faulted}
 use Rattle.ld_infer.proofs.Stopping.{stop_told}
-use Rattle.ld_infer.proofs.Going.{continues_refl, sort_stays}
+use Rattle.ld_infer.proofs.Going.{continues_refl, sort_stays, term_stays, tree_stays}
 use Rattle.ld_infer.proofs.Staying.{at_same}
 use Rattle.ld_infer.proofs.Exposure.{conv_here}
 use Rattle.ld_defrules.specs.declared.ItemFault.{ItemFault}
 use Rattle.ld_defrules.specs.declared.ItemFault.TheVariants as fault
 use Rattle.ld_defrules.specs.Judged.{other_type, same_as_stated, ItemStops, IsOtherType}
-use Rattle.ld_defrules.proofs.Going.{term_stays, tree_stays}
 
 module _ (a b : Standing) (found stated : TermId) (w w' : Account) (goes : Continues a b) (at : IsTermAt a.items found) (at_stated : IsTermAt a.items stated) where
   pub same_accepted : Comes (Compares (env a) 1 (tree_at a.items found) (tree_at a.items stated)) (Gives tt) w w'

@@ -20,7 +20,6 @@ pub mod Prefixing
 pub mod HeadScopes
 pub mod Exposure
 pub mod Instances
-pub mod Putting
 pub mod Parameters
 pub mod Comparing
 pub mod Judging

@@ -64,9 +64,6 @@ pub told_extended : (a b : Standing) (job : Job) (P : Account → Type 0) → Ex
 told_extended a b job P extends h p = subst P (sym (account_extended a b extends job h)) p
 
 -- a variable is put into the context, or taken away
-pub pairs_entered : (a b : Standing) (x : Tree) (ps : List Pair) → Enters a b x → KnowsPairs a ps → KnowsPairs b ps
-pairs_entered a b x ps enters h = pairs_added a b enters.items ps enters.adds h
-
 pub account_entered : (a b : Standing) (x : Tree) (job : Job) → Enters a b x → KnowsPairs a job.known → account b job ≡ account a job
 account_entered a b x job enters h = account_extended a b enters.items job h
 

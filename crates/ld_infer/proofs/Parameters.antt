@@ -19,11 +19,10 @@ use Rattle.ld_record.specs.Follows.{entry_at}
 use Rattle.ld_record.specs.Kept.{IsJudged, judgement_of, entry_by, with_kept, known_after, known_of, Fits, AreSound, IsSound}
 use Rattle.ld_record.proofs.Lists.{with_one_more}
 use Rattle.ld_record.proofs.Growing.{Grows, grows_kept}
-use Rattle.ld_record.proofs.Named.{kept_terms_are_named}
+use Rattle.ld_record.proofs.Named.{named_put, kept_terms_are_named}
 use Rattle.ld_record.proofs.Derived.{kept_nodes_are_derivable}
 use Rattle.ld_infer.specs.Standing.{Standing, env, without}
 use Rattle.ld_infer.specs.Infers.{AreReadable}
-use Rattle.ld_infer.proofs.Putting.{named_put}
 
 -- each tree is the term of a judgement
 abbrev pub AreTerms : Known → Trees → Type 0

@@ -11,7 +11,7 @@ use Rattle.ld_terms.specs.declared.bank.Node.TheVariants as node
 use Rattle.ld_terms.specs.Named.{AreNamed}
 use Rattle.ld_terms.specs.Entry.{Env, AreScoped}
 use Rattle.ld_infer.specs.Standing.{Standing, Continues, without, without_last}
-use Rattle.ld_infer.specs.Infers.{AreReadable, ArePrefixes}
+use Rattle.ld_infer.specs.Infers.{AreReadable}
 use Rattle.ld_infer.proofs.Staying.{at_same}
 use Rattle.ld_infer.proofs.Nodes.{node_item}
 
@@ -103,9 +103,6 @@ first_more items us rest u before lists h node at =
     new i d last =
         let P : TermId → Type 0 = λ t. IsListAt items t × (list_at items t ≡ without i us) in
         subst P (sym (get_or_push lists rest d i last)) (h.next, h.is ∙ ap (λ n. without n us) last)
-
-pub first_all : (items : List Item) (us : Trees) (rest : TermId) (lists : List TermId) → AreFirst items us rest lists → list_at items rest ≡ Nil → ArePrefixes items us lists
-first_all items us rest lists h none = record { as_many = omega (arith, h.all, ap count none); each = h.each }
 
 -- a node of a list that is none of a longer list
 pub nil_node : (items : List Item) (n : Node) (t : TermId) → ((u us : TermId) → n ≡ node.Cons u us → ⊥) → IsListAt items t → item_of items n ≡ item_at items t → list_at items t ≡ Nil

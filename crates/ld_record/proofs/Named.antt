@@ -86,7 +86,7 @@ count-put Nil us below = refl
 count-put (vs ▸ v) us below = ap suc (count-put vs us below)
 
 mutual
-  named_put : (env : Env) (t : Tree) (us : Trees) (below : ℕ) → AreNamed env us → IsNamed env t → IsNamed env (put_below t us below)
+  pub named_put : (env : Env) (t : Tree) (us : Trees) (below : ℕ) → AreNamed env us → IsNamed env t → IsNamed env (put_below t us below)
   named_put env Star us below w h = tt
   named_put env Box us below w h = tt
   named_put env (Var i) us below w h = in_place_below_named env us below i w

@@ -9,7 +9,7 @@ use Rattle.ld_record.specs.Growth.{Knows}
 use Rattle.ld_infer.specs.declared.failure.Why.TheVariants as why
 use Rattle.ld_infer.specs.Standing.{known, env, here, account}
 use Rattle.ld_defrules.specs.Judged.{IsOtherType}
-use Rattle.ld_defrules.proofs.Going.{tree_stays, term_stays}
+use Rattle.ld_infer.proofs.Going.{tree_stays, term_stays}
 use Rattle.ld_defrules.proofs.Lines.{box_stops, box_accepted, box_refused, box_only, same_items}
 use Rattle.ld_defrules.proofs.box_judgement.Goals as goal
 

@@ -9,7 +9,7 @@ use Rattle.ld_infer.specs.Infers.{ComparesTypes}
 use Rattle.ld_infer.proofs.Pairs.{told_later}
 use Rattle.ld_infer.proofs.Staying.{known_here}
 use Rattle.ld_defrules.specs.Judged.{same_as_stated}
-use Rattle.ld_defrules.proofs.Going.{continues_trans, tree_stays}
+use Rattle.ld_infer.proofs.Going.{continues_trans, tree_stays}
 use Rattle.ld_defrules.proofs.Stated.{same_accepted, same_stops, other_refused, conv_stated}
 use Rattle.ld_defrules.proofs.compared_judgement.Goals as goal
 

@@ -7,7 +7,7 @@ use Rattle.ld_terms.specs.Known.{Judgement}
 use Rattle.ld_record.specs.Growth.{Knows}
 use Rattle.ld_terms.specs.Bank.{tree_at, item_at}
 use Rattle.ld_infer.specs.Standing.{known, env, here, account}
-use Rattle.ld_defrules.proofs.Going.{continues_trans, here_stays, term_stays, tree_stays}
+use Rattle.ld_infer.proofs.Going.{continues_trans, here_stays, term_stays, tree_stays}
 use Rattle.ld_defrules.proofs.Lines.{type_stops}
 use Rattle.ld_defrules.proofs.Readings.{line_faulty, line_typed, line_compared}
 use Rattle.ld_defrules.proofs.line_judgement.Goals as goal

@@ -7,7 +7,8 @@ use Rattle.ld_infer.proofs.Pairs.{told_extended}
 use Rattle.ld_reduce.specs.Task.{Gives, gives}
 use Rattle.ld_defrules.specs.Judged.{type_judged, flag_judged}
 use Rattle.ld_defrules.proofs.Faults.{item_stops_first, judges_stop}
-use Rattle.ld_defrules.proofs.Going.{adds_flag_after, continues_trans}
+use Rattle.ld_infer.proofs.Going.{continues_trans}
+use Rattle.ld_defrules.proofs.Going.{adds_flag_after}
 use Rattle.ld_defrules.proofs.Lines.{asked}
 use Rattle.ld_defrules.proofs.Refused.{flag_refused}
 use Rattle.ld_defrules.proofs.open_flag.Goals as goal
