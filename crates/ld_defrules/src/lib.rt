@@ -13,6 +13,7 @@ ghost use Rattle.ld_record.specs.Growth.{Knows};
 ghost use Rattle.ld_infer.specs.Standing.{known, env, here, account, Continues, Goes, AddsEntry, AddsFlag, KnowsSort, KnowsPairs, without};
 ghost use Rattle.ld_infer.specs.Infers.{IsReadable, Infers};
 ghost use Rattle.ld_infer.specs.Refusals.{HasNoSort};
+ghost use Rattle.ld_infer.specs.declared.failure.Why.TheVariants as why;
 ghost use Rattle.ld_defrules.specs.declared.ItemFault.TheVariants.{Refused};
 ghost use Rattle.ld_defrules.specs.Judged.{Judges, flag_judged, primitive_judged, type_judged, body_judged, line_judged, primitive_of, line_of, same_as_stated, has_box, SortsType, TypesLine, BodyTypes, IsOtherType};
 ghost use Rattle.ld_env.specs.Named.{names_of};
@@ -278,14 +279,8 @@ fn compared_judgement(
             }
         }
         Ok(Compared::Apart { left, right, under }) => {
-            let why = Why::NotSame {
-                found: typed.of,
-                wanted: of,
-                left,
-                right,
-                under,
-            };
-            Err(other_type(alloc, theory, why))
+            let parts = (left, right, under);
+            Err(other_type(alloc, theory, typed.of, of, parts))
         }
         Err(stop) => Err(ItemFault::Stop(stop)),
     }
@@ -321,31 +316,38 @@ fn box_judgement(
     if theory.bank().same(typed.of, of) {
         Ok(typed.judge)
     } else {
-        let why = Why::NotSame {
-            found: typed.of,
-            wanted: of,
-            left: typed.of,
-            right: of,
-            under: 0,
-        };
-        Err(other_type(alloc, theory, why))
+        let parts = (typed.of, of, 0);
+        Err(other_type(alloc, theory, typed.of, of, parts))
     }
 }
 
-// The refusal of a body whose type is another than the stated one.
-fn other_type(alloc: Global, theory: &Theory, why: Why) -> ItemFault
+// The refusal of a body whose type is another than the stated one: the two come apart at these parts, under so many binders.
+fn other_type(
+    alloc: Global,
+    theory: &Theory,
+    found: TermId,
+    wanted: TermId,
+    parts: (TermId, TermId, u32),
+) -> ItemFault
     requires { count theory.now.context < 2 ^ 32 }
-    ensures { (items : List Item) → IsOtherType items theory.now.context why result }
+    ensures { (items : List Item) → IsOtherType items theory.now.context (why.NotSame found wanted parts.0 parts.1 parts.2) result }
 {
     let mut path = Path::new(alloc);
     if path.within(PathStep::Body).is_err() {
         return ItemFault::Stop(Stop::Memory);
     }
+    let (left, right, under) = parts;
     ItemFault::Refused(Failure {
         rule: RuleName::Def,
         premise: 2,
         path,
         depth: theory.depth(),
-        why,
+        why: Why::NotSame {
+            found,
+            wanted,
+            left,
+            right,
+            under,
+        },
     })
 }
