@@ -1,5 +1,6 @@
 -- A judgement follows by a rule from judgements and equalities that are known by their numbers.
-use Rattle.std.proofs.Common.{◌≡◌, ◌∙◌, ◌<◌, ◌≤◌, ℕ, List, length, refl, ap, sym, subst, arith}
+use Rattle.std.proofs.Common.{◌≡◌, ◌∙◌, ◌<◌, ◌≤◌, ℕ, List, length, true, Result, IfOk, refl, ap, sym, subst, arith}
+use Rattle.std.proofs.lemmas.List.Elements.{All-nil}
 use mathlib.Core.Path.{ap₂}
 use Rattle.std.specs.List.{AllByRecursion}
 use Rattle.ld_terms.specs.Tree.{Tree, Star, Box, Var, App, Lam, Pi, Const, Trees, Nil, ◌▸◌}
@@ -9,19 +10,20 @@ use Rattle.ld_terms.specs.Derivable.{IsSort}
 use Rattle.ld_terms.specs.Item.{Item, tree}
 use Rattle.ld_terms.specs.Bank.{StandsFor, tree_at}
 use Rattle.ld_terms.specs.declared.bank.TermId.{TermId}
-use Rattle.ld_terms.specs.Known.{Known, Equality, Judgement, context_at, judgement_at, bound_by, IsNode, JudgeArguments}
+use Rattle.ld_terms.specs.Known.{Known, nothing, no_judgement, with_node, Equality, Judgement, context_at, judgement_at, bound_by, IsNode, JudgeArguments}
 use Rattle.ld_record.specs.declared.record.JudgeId.{JudgeId}
 use Rattle.ld_record.specs.declared.record.EqId.{EqId}
 use Rattle.ld_record.specs.declared.record.CtxId.{CtxId}
 use Rattle.ld_record.specs.declared.record.Judge.{Judge}
+use Rattle.ld_record.specs.declared.record.Kept.{Kept}
 use Rattle.ld_record.specs.Follows.{numbers_of, entry_at, IsPremise, ByVar, ByWeak, ByForm, ByAppl, ByAbst, ByConv, ByInstPrim}
 use Rattle.ld_record.specs.declared.record.EqStep.{EqStep}
 use Rattle.ld_record.specs.Equal.{eq_rule_of}
-use Rattle.ld_record.specs.Kept.{judgement_of, equality_of, FitsContext}
+use Rattle.ld_record.specs.Kept.{known_of, judgement_of, equality_of, FitsContext, FitsEntry}
 use Rattle.ld_record.specs.Growth.{Knows, KnowsContext, KnowsEquality}
 use Rattle.ld_record.specs.Tests.{judged}
 use Rattle.ld_record.proofs.Growing.{judged_by}
-use Rattle.ld_record.proofs.CallerLemmas.{Says, said, equality_said, term_there}
+use Rattle.ld_record.proofs.CallerLemmas.{Says, said, equality_said, term_there, empty_known}
 
 module _ (known : Known) where
   premise : (s q : Judgement) (n : JudgeId) → Knows known n q → q.entries ≡ s.entries → IsPremise known s n
@@ -128,14 +130,35 @@ module _ (known : Known) where
     body = body;
   }
 
+-- over the first judgement any name may be that of a primitive
+pub primitive_fits : (known : Known) (name : List ℕ) (j : JudgeId) → known ≡ with_node nothing no_judgement → j.0 ≡ 0 → 0 < length name → length name ≤ 255
+    → FitsEntry known name j true
+primitive_fits known name j is zero some short =
+    let P : Known → Type 0 = λ k. FitsEntry k name j true in
+    let Q : ℕ → Type 0 = λ n. FitsEntry (with_node nothing no_judgement) name (record { 0 = n }) true in
+    let fits : FitsEntry (with_node nothing no_judgement) name (record { 0 = 0 }) true = record {
+      live = omega arith;
+      may = record { free = record { some = some; short = short; fresh = All-nil _ }; over = refl; sort = IsSort.box };
+    } in
+    subst P (sym is) (subst Q (sym zero) fits)
+
 -- what the numbers of a record say, over as many entries as there may be
 pub says_at : (items : List Item) (known : Known) (m : ℕ) (ctx : CtxId) (t u : TermId) (us : Trees) (x y : Tree) → m ≤ length known.env → KnowsContext known ctx us
     → StandsFor items t x → StandsFor items u y → Says items known (record { entries = m; ctx = ctx; term = t; of = u }) (judged m us x y)
 says_at items known m ctx t u us x y within context term type = record { entries = refl; within = within; context = context; term = term; type = type }
 
+-- the same in the empty context
+pub says_empty : (items : List Item) (kept : List Kept) (m : ℕ) (none : CtxId) (t u : TermId) (x y : Tree) → none.0 ≡ 0 → m ≤ length (known_of items kept).env
+    → StandsFor items t x → StandsFor items u y → Says items (known_of items kept) (record { entries = m; ctx = none; term = t; of = u }) (judged m Nil x y)
+says_empty items kept m none t u x y zero within term type = says_at items (known_of items kept) m none t u Nil x y within (empty_known items kept none zero) term type
+
 -- the number of a judgement that was kept
 pub knows_said : (items : List Item) (old new : Known) (judge : Judge) (s : Judgement) (k : JudgeId) → Says items old judge s → Knows new k (judgement_of items old judge) → Knows new k s
 knows_said items old new judge s k says h = let P : Judgement → Type 0 = λ q. Knows new k q in subst P (said items old judge s says) h
+
+pub number_said : {E : Type 0} (items : List Item) (old new : Known) (judge : Judge) (s : Judgement) (r : Result JudgeId E) → Says items old judge s
+    → IfOk r (λ k. Knows new k (judgement_of items old judge)) → IfOk r (λ k. Knows new k s)
+number_said items old new judge s r says h = let P : Judgement → Type 0 = λ q. IfOk r (λ k. Knows new k q) in subst P (said items old judge s says) h
 
 -- a context may be extended by the term of a judgement, and the number is then that of the longer one
 pub context_fits : (items : List Item) (known : Known) (outer : CtxId) (t : TermId) (us : Trees) (j : JudgeId) (s : Judgement) → KnowsContext known outer us

@@ -31,7 +31,7 @@ pub(crate) fn star(bank: &mut Bank) -> Result<TermId, TermFault>
     bank.add(Node::Star)
 }
 
-pub(crate) fn box_sort(bank: &mut Bank) -> Result<TermId, TermFault>
+fn box_sort(bank: &mut Bank) -> Result<TermId, TermFault>
     ensures tree { IfOk result (λ t. StandsFor bank.new t tree.Box) }
     ensures kept { Extends bank.old bank.new }
 {
@@ -55,7 +55,7 @@ fn product(bank: &mut Bank, a: TermId) -> Result<TermId, TermFault>
 }
 
 // `* : box` over no entries.
-pub(crate) fn start(
+fn start(
     deriv: &mut Deriv,
     bank: &Bank,
     star: TermId,

@@ -1,14 +1,12 @@
-use Rattle.std.proofs.Common.{IfOk, subst, arith}
+use Rattle.std.proofs.Common.{arith}
 use Rattle.ld_terms.specs.Tree.{Star, Box, Var, App, Pi, Nil}
 use Rattle.ld_terms.specs.Derivable.{IsSort}
-use Rattle.ld_terms.specs.Known.{Judgement}
 use Rattle.ld_record.specs.declared.record.Step.TheVariants as step
 use Rattle.ld_record.specs.Kept.{known_of}
-use Rattle.ld_record.specs.Growth.{Knows}
 use Rattle.ld_record.specs.Tests.{judged, one_type, same_type}
 use Rattle.ld_record.proofs.Growing.{knows_later, knows_context_later}
-use Rattle.ld_record.proofs.CallerLemmas.{said, node_fits}
-use Rattle.ld_record.proofs.Following.{by_weak, by_appl, says_at, knows_said}
+use Rattle.ld_record.proofs.CallerLemmas.{node_fits}
+use Rattle.ld_record.proofs.Following.{by_weak, by_appl, says_at, knows_said, number_said}
 use Rattle.dr_text.proofs.conversion_tests.applied.Goals as goal
 
 pub emit-requires-clause-fits : goal.emit-requires-clause-fits
@@ -39,6 +37,4 @@ returns-clause-number c =
     let k1 = known_of items c.emit.new.self in
     let ctx_1 = knows_context_later k0 k1 c.args.ctx _ c.emit.ensures.adds c.requires.ctx in
     let says1 = says_at items k1 0 c.args.ctx c.args.redex.first c.args.star one_type (App same_type (Var 0)) Star (omega arith) ctx_1 c.requires.first c.requires.star in
-    let k2 = known_of items c.emit-2.new.self in
-    let P2 : Judgement → Type 0 = λ q. IfOk c.emit-2.result (λ k. Knows k2 k q) in
-    subst P2 (said items k1 _ (judged 0 one_type (App same_type (Var 0)) Star) says1) c.emit-2.ensures.number
+    number_said items k1 (known_of items c.emit-2.new.self) _ (judged 0 one_type (App same_type (Var 0)) Star) c.emit-2.result says1 c.emit-2.ensures.number

@@ -1,14 +1,12 @@
-use Rattle.std.proofs.Common.{IfOk, subst, arith}
+use Rattle.std.proofs.Common.{arith}
 use Rattle.ld_terms.specs.Tree.{Star, Box, Var, Pi, Nil}
 use Rattle.ld_terms.specs.Derivable.{IsSort}
-use Rattle.ld_terms.specs.Known.{Judgement}
 use Rattle.ld_record.specs.declared.record.Step.TheVariants as step
 use Rattle.ld_record.specs.Kept.{known_of}
-use Rattle.ld_record.specs.Growth.{Knows}
 use Rattle.ld_record.specs.Tests.{judged, same_type}
 use Rattle.ld_record.proofs.Growing.{knows_later}
-use Rattle.ld_record.proofs.CallerLemmas.{said, node_fits, empty_known}
-use Rattle.ld_record.proofs.Following.{by_form, by_abst, says_at, knows_said}
+use Rattle.ld_record.proofs.CallerLemmas.{node_fits, empty_known}
+use Rattle.ld_record.proofs.Following.{by_form, by_abst, says_at, knows_said, number_said}
 use Rattle.dr_text.proofs.conversion_tests.function.Goals as goal
 
 pub emit-requires-clause-fits : goal.emit-requires-clause-fits
@@ -41,6 +39,4 @@ returns-clause-number c =
     let k1 = known_of items c.emit.new.self in
     let empty_later = empty_known items c.emit.new.self c.empty-2.result c.empty-2.ensures in
     let says1 = says_at items k1 0 c.empty-2.result c.args.redex.function c.args.redex.product Nil same_type (Pi Star Star) (omega arith) empty_later c.requires.function c.requires.product in
-    let k2 = known_of items c.emit-2.new.self in
-    let P2 : Judgement → Type 0 = λ q. IfOk c.emit-2.result (λ k. Knows k2 k q) in
-    subst P2 (said items k1 _ (judged 0 Nil same_type (Pi Star Star)) says1) c.emit-2.ensures.number
+    number_said items k1 (known_of items c.emit-2.new.self) _ (judged 0 Nil same_type (Pi Star Star)) c.emit-2.result says1 c.emit-2.ensures.number
