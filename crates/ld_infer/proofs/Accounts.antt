@@ -30,6 +30,7 @@ runs_out_first {E = E} {X = X} {Y = Y} p f old new a = record {
     | ends stop first end ↦ a.none stop L m first
   ];
   left = a.left;
+  takes = a.takes;
 }
 
 pub runs_out_then : {E X Y : Type 0} (p : Task E X) (f : X → Task E Y) (x : X) (old mid new : Account)
@@ -40,6 +41,7 @@ runs_out_then {E = E} {X = X} {Y = Y} p f x old mid new a b = record {
     | ends stop first end ↦ absurd (gives_ends stop r (a.answers.only stop L m first).0 end)
   ];
   left = b.left;
+  takes = record { left = omega (arith, a.takes.left, b.takes.left); spent = omega (arith, a.takes.left, a.takes.spent, b.takes.left, b.takes.spent) };
 }
   where
     gives_ends : (stop : Answer E X) (s : Answer E Y) → stop ≡ Gives x → Ends stop s → ⊥
@@ -57,4 +59,4 @@ runs_out_then {E = E} {X = X} {Y = Y} p f x old mid new a b = record {
         omega (arith, sum, one.2, less, a.takes.left)
 
 pub runs_out_faulted : {E F X : Type 0} (g : E → F) (p : Task E X) (old new : Account) → RunsOut p old new → RunsOut (faults_by g p) old new
-runs_out_faulted g p old new a = record { none = λ r L m h. a.none h.0 L m h.1; left = a.left }
+runs_out_faulted g p old new a = record { none = λ r L m h. a.none h.0 L m h.1; left = a.left; takes = a.takes }

@@ -41,7 +41,7 @@ comes_by p old new before after r h = record { steps = h.steps; answers = h.answ
 
 stops_by : {E X : Type 0} (p : Task E X) (old new : Standing) (before after : Job) (s : Stop)
     → cost.StopsTask p (pairs_of old.items before.known) (pairs_of new.items after.known) before.budget after.budget s → StopsBy p s (account old before) (account new after)
-stops_by p old new before after stop.Spent h = record { none = h.none; left = h.left }
+stops_by p old new before after stop.Spent h = record { none = h.none; left = h.left; takes = record { left = h.takes.left; spent = h.takes.spent } }
 stops_by p old new before after stop.High h = comes_by p old new before after High h
 stops_by p old new before after stop.Nested h = comes_by p old new before after Nested h
 stops_by p old new before after stop.Memory h = tt

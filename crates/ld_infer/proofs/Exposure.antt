@@ -79,7 +79,7 @@ exposure old new type w w' (Ok r) scoped within goes sound known_is h =
     }
 exposure old new type w w' (Err stop.Spent) scoped within goes sound known_is h =
     let task = answers_task Refusal (Expose (env old) type) w.known type (length (env old)) new.items (known new) (work w.left w.spent) (work w'.left w'.spent) (Err stop.Spent) (runs_once (head_step (env old)) type) h in
-    record { none = task.none; left = task.left }
+    record { none = task.none; left = task.left; takes = record { left = task.takes.left; spent = task.takes.spent } }
 exposure old new type w w' (Err stop.High) scoped within goes sound known_is h =
     let task = answers_task Refusal (Expose (env old) type) w.known type (length (env old)) new.items (known new) (work w.left w.spent) (work w'.left w'.spent) (Err stop.High) (runs_once (head_step (env old)) type) h in
     comes_by (exposed (env old) type) High w w' known_is task

@@ -23,7 +23,8 @@ pub record Comes {E X : Type 0} (p : Task E X) (r : Answer E X) (old new : Accou
   pub answers : Answers p old.known r new.known steps
   pub takes : Takes old new steps
 
--- The task has no answer by the steps that were left.
+-- The task has no answer by the steps that were left, and all of these were made.
 pub record RunsOut {E X : Type 0} (p : Task E X) (old new : Account) : Type 0 where
   pub none : (r : Answer E X) (known : Pairs) (n : ℕ) → p old.known r known n → old.left < n
   pub left : new.left ≡ 0
+  pub takes : Takes old new old.left
