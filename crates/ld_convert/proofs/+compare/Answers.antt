@@ -1,15 +1,17 @@
-use Rattle.std.proofs.Common.{rules, ◌≡◌, ◌+◌, All, length, Ok, Err, Result, ap, sym, ◌∙◌, subst, arith}
+mod Whole
+mod Heads
+use Rattle.std.proofs.Common.{rules, ◌≡◌, ◌+◌, All, length, Ok, Err, Result, sym, subst, arith}
 use Rattle.ld_terms.specs.Bank.{tree_at}
 use Rattle.ld_record.specs.Kept.{known_of}
 use Rattle.ld_reduce.specs.Heads.{BetaHead}
-use Rattle.ld_reduce.specs.Cost.{Answers, Equates}
+use Rattle.ld_reduce.specs.Cost.{Answers}
 use Rattle.ld_reduce.specs.declared.stop.Stop.{Stop}
 use Rattle.ld_reduce.proofs.Going.{goes_trans}
 use Rattle.ld_reduce.proofs.Once.{runs_once}
 use Rattle.ld_reduce.specs.Heads.{beta_step}
 use Rattle.ld_convert.specs.Apart.{Apart, parts_of}
 use Rattle.ld_convert.specs.AtOnce.{FoundAtOnce}
-use Rattle.ld_convert.specs.Compares.{Compares, Turns, turn, all_same, heads_turn}
+use Rattle.ld_convert.specs.Compares.{Compares, Turns, turn, all_same}
 use Rattle.ld_convert.specs.Pairs.{pairs_of}
 use Rattle.ld_convert.specs.Account.{ComparedAs, Comes}
 use Rattle.ld_convert.specs.Walks.{parts_in, Gathered}
@@ -17,127 +19,40 @@ use Rattle.ld_convert.specs.Turned.{IsComparablePart, WalkedAs, TurnedAs}
 use Rattle.ld_convert.specs.declared.job.Compared.{Compared}
 use Rattle.ld_convert.specs.declared.turning.Turned.{Turned}
 use Rattle.ld_convert.specs.declared.turning.Walked.{Walked}
-use Rattle.ld_convert.proofs.ByHeads.{not_equal, sides_known, unfolds_here, heads_stop, done_same, done_apart, done_unfolded, unfolded_stops}
 use Rattle.ld_convert.proofs.NamedParts.{gathered_comparable}
 use Rattle.ld_convert.proofs.Ready.{ready_later, pairs_stay, tree_later, term_later, equal_to_later, comparable_ends, turned_here}
 use Rattle.ld_convert.proofs.Walking.{walk_stops, walk_apart, ready_after, walk_next, walk_ends}
 use Rattle.ld_convert.proofs.AfterTurns.{next_comes, next_stops, turns_stops, parts_once, come_next}
-use Rattle.ld_convert.proofs.Comparing.{next_answers, compare_now, compare_stops, compare_apart, compare_same, not_found, found, kept_live, going_next, turn_stops, turn_goes_on}
-use Rattle.ld_convert.proofs.ScopedEntries.{env_scoped}
-use Rattle.ld_convert.proofs.Apartness.{shows_apart}
+use Rattle.ld_convert.proofs.Comparing.{next_answers, going_next, turn_stops, turn_goes_on}
 use Rattle.ld_convert.proofs.OneTurn.{reached, reach_stops, first_stop, second_stop, turn_answers}
+use Rattle.ld_convert.proofs.+compare.Answers.Whole.{found_answers, turns_stop, same_answers, same_remembered, apart_answers, apart_shown}
+use Rattle.ld_convert.proofs.+compare.Answers.Heads.{same_or_apart, apart_at_heads, parts_stop, unfolding_stops, unfolding_leads}
 use Rattle.ld_convert.proofs.+compare.Goals as goal
 
 -- The whole comparison.
 pub comparison::compare-returns-in-Some-clause-answer : goal.comparison::compare-returns-in-Some-clause-answer
-comparison::compare-returns-in-Some-clause-answer t c =
-    let items = c.args.bank.now in
-    let env = (known_of items c.args.deriv.now).env in
-    let a = tree_at items c.args.a in
-    let b = tree_at items c.args.b in
-    let K = pairs_of items c.args.job.now.known in
-    let f = found (known_of items c.same_at_once.new.deriv) K a b c.in_ok-equal.field-0 c.in-Some.equal c.in-Some.is c.in_ok-equal.ensures.found in (
-      compare_now env c.args.nest a b K c.args.job.now.budget (omega (arith, c.if-nest-gt-GREATEST_NESTING.false)) f.0,
-      subst (λ n. Equates (known_of items c.same_at_once.new.deriv) c.in-Some.equal a b n) (ap length c.same_at_once.ensures.goes.adds.env) f.1,
-    )
+comparison::compare-returns-in-Some-clause-answer = found_answers
 
 pub comparison::compare-returns-in_err-compared-clause-answer : goal.comparison::compare-returns-in_err-compared-clause-answer
-comparison::compare-returns-in_err-compared-clause-answer t c =
-    let items = c.args.bank.now in
-    let env = (known_of items c.args.deriv.now).env in
-    let later = c.turns.new.bank in
-    let a = tree_at items c.args.a in
-    let b = tree_at items c.args.b in
-    let K = pairs_of items c.args.job.now.known in
-    let L = pairs_of later c.turns.new.job.known in
-    let old = c.args.job.now.budget in
-    let new = c.turns.new.job.budget in
-    let differ = not_found (known_of items c.same_at_once.new.deriv) K a b c.in_ok-equal.field-0 c.in_default.not-Some c.in_ok-equal.ensures.found in
-    let here =
-    subst (λ v. ComparedAs (Turns v (Compares v (c.args.nest + 1)) a b) a b (length v) later (known_of later c.turns.new.deriv) K L old new (Err c.in_err-compared.field-0.0)) c.same_at_once.ensures.goes.adds.env
-    c.in_err-compared.ensures.answer in
-    let is : Err c.in_err-compared.field-0.0 ≡ c.from_residual-in_err-compared.result = search rules in
-    let P : Result Compared Stop → Type 0 = λ r. ComparedAs (Compares env c.args.nest a b) a b (length env) later (known_of later c.turns.new.deriv) K L old new r in
-    subst P is (compare_stops env c.args.nest a b K L old new c.in_err-compared.field-0.0 (omega (arith, c.if-nest-gt-GREATEST_NESTING.false)) differ here)
+comparison::compare-returns-in_err-compared-clause-answer = turns_stop
 
 pub comparison::compare-returns-in_err-remember-clause-goes : goal.comparison::compare-returns-in_err-remember-clause-goes
 comparison::compare-returns-in_err-remember-clause-goes t c = goes_trans _ _ _ _ _ _ c.same_at_once.ensures.goes c.turns.ensures.goes
 
 pub comparison::compare-returns-in_ok-remember-clause-answer : goal.comparison::compare-returns-in_ok-remember-clause-answer
-comparison::compare-returns-in_ok-remember-clause-answer t c =
-    let items = c.args.bank.now in
-    let env = (known_of items c.args.deriv.now).env in
-    let later = c.turns.new.bank in
-    let a = tree_at items c.args.a in
-    let b = tree_at items c.args.b in
-    let K = pairs_of items c.args.job.now.known in
-    let L = pairs_of later c.turns.new.job.known in
-    let old = c.args.job.now.budget in
-    let new = c.turns.new.job.budget in
-    let differ = not_found (known_of items c.same_at_once.new.deriv) K a b c.in_ok-equal.field-0 c.in_default.not-Some c.in_ok-equal.ensures.found in
-    let here =
-    subst (λ v. ComparedAs (Turns v (Compares v (c.args.nest + 1)) a b) a b (length v) later (known_of later c.turns.new.deriv) K L old new (Ok c.in_ok-compared.compared)) c.same_at_once.ensures.goes.adds.env
-    c.in_ok-compared.ensures.answer in
-    compare_same env c.args.nest a b (tree_at later c.args.a) (tree_at later c.args.b) later (known_of later c.turns.new.deriv) K L (pairs_of later c.remember.new.known) old new c.in_ok-compared.compared c.in-Same.equal
-    (omega (arith, c.if-nest-gt-GREATEST_NESTING.false)) differ c.in-Same.is (tree_later _ _ _ _ c.args.a c.turns.ensures.goes c.requires.first) (tree_later _ _ _ _ c.args.b c.turns.ensures.goes c.requires.second)
-    c.in_ok-remember.ensures.ok here
+comparison::compare-returns-in_ok-remember-clause-answer = same_answers
 
 pub comparison::compare-returns-in_ok-remember-clause-pairs : goal.comparison::compare-returns-in_ok-remember-clause-pairs
-comparison::compare-returns-in_ok-remember-clause-pairs t c =
-    let items = c.args.bank.now in
-    let later = c.turns.new.bank in
-    let known = known_of later c.turns.new.deriv in
-    let mid = (known_of items c.same_at_once.new.deriv).env in
-    let a = tree_at items c.args.a in
-    let b = tree_at items c.args.b in
-    let K = pairs_of items c.args.job.now.known in
-    let L = pairs_of later c.turns.new.job.known in
-    let P : Compared → Type 0 = λ x. ComparedAs (Turns mid (Compares mid (c.args.nest + 1)) a b) a b (length mid) later known K L c.args.job.now.budget c.turns.new.job.budget (Ok x) in
-    let h = subst P c.in-Same.is c.in_ok-compared.ensures.answer in
-    let left = sym (tree_later _ _ _ _ c.args.a c.turns.ensures.goes c.requires.first) in
-    let right = sym (tree_later _ _ _ _ c.args.b c.turns.ensures.goes c.requires.second) in
-    let equal =
-    subst (λ n. Equates known c.in-Same.equal (tree_at later c.args.a) (tree_at later c.args.b) n) (ap length (sym c.turns.ensures.goes.adds.env))
-    (subst (λ x. Equates known c.in-Same.equal x (tree_at later c.args.b) (length mid)) left (subst (λ y. Equates known c.in-Same.equal a y (length mid)) right h.1)) in
-    kept_live later known (length known.env) c.turns.new.job.known c.remember.new.known _ c.turns.ensures.ready.pairs
-    (record {
-      terms = record { left = term_later _ _ _ _ c.args.a c.turns.ensures.goes c.requires.first; right = term_later _ _ _ _ c.args.b c.turns.ensures.goes c.requires.second };
-      equal = equal;
-    })
-    c.remember.ensures.kept
+comparison::compare-returns-in_ok-remember-clause-pairs = same_remembered
 
 pub comparison::compare-returns-in_ok-remember-clause-goes : goal.comparison::compare-returns-in_ok-remember-clause-goes
 comparison::compare-returns-in_ok-remember-clause-goes t c = goes_trans _ _ _ _ _ _ c.same_at_once.ensures.goes c.turns.ensures.goes
 
 pub comparison::compare-returns-in_default-compared-clause-answer : goal.comparison::compare-returns-in_default-compared-clause-answer
-comparison::compare-returns-in_default-compared-clause-answer t c =
-    let items = c.args.bank.now in
-    let env = (known_of items c.args.deriv.now).env in
-    let later = c.turns.new.bank in
-    let a = tree_at items c.args.a in
-    let b = tree_at items c.args.b in
-    let K = pairs_of items c.args.job.now.known in
-    let L = pairs_of later c.turns.new.job.known in
-    let old = c.args.job.now.budget in
-    let new = c.turns.new.job.budget in
-    let differ = not_found (known_of items c.same_at_once.new.deriv) K a b c.in_ok-equal.field-0 c.in_default.not-Some c.in_ok-equal.ensures.found in
-    let here =
-    subst (λ v. ComparedAs (Turns v (Compares v (c.args.nest + 1)) a b) a b (length v) later (known_of later c.turns.new.deriv) K L old new (Ok c.in_ok-compared.compared)) c.same_at_once.ensures.goes.adds.env
-    c.in_ok-compared.ensures.answer in
-    compare_apart env c.args.nest a b later (known_of later c.turns.new.deriv) K L old new c.in_ok-compared.compared c.in_default-compared.field-0 c.in_default-compared.field-1 c.in_default-compared.field-2
-    (omega (arith, c.if-nest-gt-GREATEST_NESTING.false)) differ c.in_default-compared.is here
+comparison::compare-returns-in_default-compared-clause-answer = apart_answers
 
 pub comparison::compare-returns-in_default-compared-clause-apart : goal.comparison::compare-returns-in_default-compared-clause-apart
-comparison::compare-returns-in_default-compared-clause-apart t c =
-    let items = c.args.bank.now in
-    let env = (known_of items c.args.deriv.now).env in
-    let later = c.turns.new.bank in
-    let a = tree_at items c.args.a in
-    let b = tree_at items c.args.b in
-    let K = pairs_of items c.args.job.now.known in
-    let L = pairs_of later c.turns.new.job.known in
-    shows_apart env c.args.nest a b (length env) later (known_of later c.turns.new.deriv) K L c.args.job.now.budget c.turns.new.job.budget c.in_ok-compared.compared
-    (env_scoped items c.args.deriv.now c.requires.sound) (comparison::compare-returns-in_default-compared-clause-answer t c)
+comparison::compare-returns-in_default-compared-clause-apart = apart_shown
 
 pub comparison::compare-returns-in_default-compared-clause-goes : goal.comparison::compare-returns-in_default-compared-clause-goes
 comparison::compare-returns-in_default-compared-clause-goes t c = goes_trans _ _ _ _ _ _ c.same_at_once.ensures.goes c.turns.ensures.goes
@@ -347,71 +262,16 @@ turning::turn-returns-clause-goes t c =
 
 -- Two terms in beta-head form.
 pub turning::by_heads-returns-in_default-2-clause-answer : goal.turning::by_heads-returns-in_default-2-clause-answer
-turning::by_heads-returns-in_default-2-clause-answer t c =
-    let items = c.args.bank.now in
-    let env = (known_of items c.args.deriv.now).env in
-    let mid = c.by_parts.new.bank in
-    let differ = not_equal items c.args.a c.args.b c.same.result c.requires.terms.first c.requires.terms.second c.same.ensures c.if-same.false in
-    done_same env (Compares env (c.args.nest + 1)) (tree_at items c.args.a) (tree_at items c.args.b) (length env) mid (known_of mid c.by_parts.new.deriv)
-    (pairs_of items c.args.job.now.known) (pairs_of mid c.by_parts.new.job.known) c.args.job.now.budget c.by_parts.new.job.budget c.in_ok-compared.compared c.in_default.field-0
-    differ c.in_default.is c.in_ok-compared.ensures.answer
+turning::by_heads-returns-in_default-2-clause-answer = same_or_apart
 
 pub turning::by_heads-returns-in_default-clause-answer : goal.turning::by_heads-returns-in_default-clause-answer
-turning::by_heads-returns-in_default-clause-answer t c =
-    let items = c.args.bank.now in
-    let env = (known_of items c.args.deriv.now).env in
-    let mid = c.by_parts.new.bank in
-    let s = c.sides_to_unfold-sides.result in
-    let differ = not_equal items c.args.a c.args.b c.same.result c.requires.terms.first c.requires.terms.second c.same.ensures c.if-same.false in
-    let ss = sides_known env _ (tree_at items c.args.a) (tree_at items c.args.b) s c.requires.ready.env c.sides_to_unfold-sides.ensures.sides in
-    done_apart env (Compares env (c.args.nest + 1)) (tree_at items c.args.a) (tree_at items c.args.b) (length env) mid (known_of mid c.by_parts.new.deriv) s
-    (pairs_of items c.args.job.now.known) (pairs_of mid c.by_parts.new.job.known) c.args.job.now.budget c.by_parts.new.job.budget c.in_ok-compared.compared c.in-Apart.left c.in-Apart.right c.in-Apart.under
-    differ ss (sym c.is_some.ensures ∙ c.if-is_some.false) c.in-Apart.is c.in_ok-compared.ensures.answer
+turning::by_heads-returns-in_default-clause-answer = apart_at_heads
 
 pub turning::by_heads-returns-in_err-compared-clause-answer : goal.turning::by_heads-returns-in_err-compared-clause-answer
-turning::by_heads-returns-in_err-compared-clause-answer t c =
-    let items = c.args.bank.now in
-    let env = (known_of items c.args.deriv.now).env in
-    let mid = c.by_parts.new.bank in
-    let a = tree_at items c.args.a in
-    let b = tree_at items c.args.b in
-    let compare = Compares env (c.args.nest + 1) in
-    let K = pairs_of items c.args.job.now.known in
-    let L = pairs_of mid c.by_parts.new.job.known in
-    let old = c.args.job.now.budget in
-    let new = c.by_parts.new.job.budget in
-    let differ = not_equal items c.args.a c.args.b c.same.result c.requires.terms.first c.requires.terms.second c.same.ensures c.if-same.false in
-    let is : Err c.in_err-compared.field-0.0 ≡ c.from_residual-in_err-compared.result = search rules in
-    let P : Result Turned Stop → Type 0 = λ r. TurnedAs (heads_turn env compare a b) a b (length env) mid (known_of mid c.by_parts.new.deriv) K L old new r in
-    subst P is (heads_stop env compare a b K L old new c.in_err-compared.field-0.0 differ c.in_err-compared.ensures.answer)
+turning::by_heads-returns-in_err-compared-clause-answer = parts_stop
 
 pub turning::by_heads-returns-in_err-led-in-Apart-clause-answer : goal.turning::by_heads-returns-in_err-led-in-Apart-clause-answer
-turning::by_heads-returns-in_err-led-in-Apart-clause-answer t c =
-    let items = c.args.bank.now in
-    let env = (known_of items c.args.deriv.now).env in
-    let mid = c.by_parts.new.bank in
-    let later = c.unfold_sides.new.bank in
-    let a = tree_at items c.args.a in
-    let b = tree_at items c.args.b in
-    let compare = Compares env (c.args.nest + 1) in
-    let s = c.sides_to_unfold-sides.result in
-    let K = pairs_of items c.args.job.now.known in
-    let L = pairs_of mid c.by_parts.new.job.known in
-    let M = pairs_of later c.by_parts.new.job.known in
-    let old = c.args.job.now.budget in
-    let between = c.by_parts.new.job.budget in
-    let new = c.unfold_sides.new.budget in
-    let f = c.in_err-led-in-Apart.field-0.0 in
-    let differ = not_equal items c.args.a c.args.b c.same.result c.requires.terms.first c.requires.terms.second c.same.ensures c.if-same.false in
-    let ss = sides_known env _ a b s c.requires.ready.env c.sides_to_unfold-sides.ensures.sides in
-    let same = pairs_stay mid later c.by_parts.new.deriv c.unfold_sides.new.deriv _ c.by_parts.new.job.known c.unfold_sides.ensures.goes c.by_parts.ensures.ready.pairs in
-    let u = unfolds_here items mid later c.args.deriv.now c.by_parts.new.deriv (known_of later c.unfold_sides.new.deriv) c.args.a c.args.b s L between new (Err f)
-    c.by_parts.ensures.goes c.requires.terms.first c.requires.terms.second (c.in_err-led-in-Apart.ensures.answer L) in
-    let is : Err f ≡ c.from_residual-in_err-led-in-Apart.result = search rules in
-    let P : Result Turned Stop → Type 0 = λ r. TurnedAs (heads_turn env compare a b) a b (length env) later (known_of later c.unfold_sides.new.deriv) K M old new r in
-    subst P is
-    (unfolded_stops env compare a b (length env) mid (known_of mid c.by_parts.new.deriv) s K L M old between new c.in_ok-compared.compared c.in-Apart.left c.in-Apart.right c.in-Apart.under f
-    differ ss (sym c.is_some.ensures ∙ c.if-is_some.true) c.in-Apart.is same c.in_ok-compared.ensures.answer u)
+turning::by_heads-returns-in_err-led-in-Apart-clause-answer = unfolding_stops
 
 pub turning::by_heads-returns-in_err-led-in-Apart-clause-goes : goal.turning::by_heads-returns-in_err-led-in-Apart-clause-goes
 turning::by_heads-returns-in_err-led-in-Apart-clause-goes t c = goes_trans _ _ _ _ _ _ c.by_parts.ensures.goes c.unfold_sides.ensures.goes
@@ -421,27 +281,7 @@ turning::by_heads-returns-in_err-led-in-Apart-clause-ready t c =
     ready_later c.by_parts.new.bank c.unfold_sides.new.bank c.by_parts.new.deriv c.unfold_sides.new.deriv c.args.env.now c.by_parts.new.job.known c.unfold_sides.ensures.goes c.by_parts.ensures.ready
 
 pub turning::by_heads-returns-in_ok-led-in-Apart-clause-answer : goal.turning::by_heads-returns-in_ok-led-in-Apart-clause-answer
-turning::by_heads-returns-in_ok-led-in-Apart-clause-answer t c =
-    let items = c.args.bank.now in
-    let env = (known_of items c.args.deriv.now).env in
-    let mid = c.by_parts.new.bank in
-    let later = c.unfold_sides.new.bank in
-    let a = tree_at items c.args.a in
-    let b = tree_at items c.args.b in
-    let s = c.sides_to_unfold-sides.result in
-    let L = pairs_of mid c.by_parts.new.job.known in
-    let between = c.by_parts.new.job.budget in
-    let new = c.unfold_sides.new.budget in
-    let known = known_of later c.unfold_sides.new.deriv in
-    let l = c.in_ok-led-in-Apart.led in
-    let differ = not_equal items c.args.a c.args.b c.same.result c.requires.terms.first c.requires.terms.second c.same.ensures c.if-same.false in
-    let ss = sides_known env _ a b s c.requires.ready.env c.sides_to_unfold-sides.ensures.sides in
-    let same = pairs_stay mid later c.by_parts.new.deriv c.unfold_sides.new.deriv _ c.by_parts.new.job.known c.unfold_sides.ensures.goes c.by_parts.ensures.ready.pairs in
-    let u = unfolds_here items mid later c.args.deriv.now c.by_parts.new.deriv known c.args.a c.args.b s L between new (Ok l)
-    c.by_parts.ensures.goes c.requires.terms.first c.requires.terms.second (c.in_ok-led-in-Apart.ensures.answer L) in
-    done_unfolded env (Compares env (c.args.nest + 1)) a b (length env) mid later (known_of mid c.by_parts.new.deriv) known s
-    (pairs_of items c.args.job.now.known) L (pairs_of later c.by_parts.new.job.known) c.args.job.now.budget between new c.in_ok-compared.compared c.in-Apart.left c.in-Apart.right c.in-Apart.under l
-    differ ss (sym c.is_some.ensures ∙ c.if-is_some.true) c.in-Apart.is same c.in_ok-compared.ensures.answer u
+turning::by_heads-returns-in_ok-led-in-Apart-clause-answer = unfolding_leads
 
 pub turning::by_heads-returns-in_ok-led-in-Apart-clause-goes : goal.turning::by_heads-returns-in_ok-led-in-Apart-clause-goes
 turning::by_heads-returns-in_ok-led-in-Apart-clause-goes t c = goes_trans _ _ _ _ _ _ c.by_parts.ensures.goes c.unfold_sides.ensures.goes
