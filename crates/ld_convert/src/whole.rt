@@ -18,7 +18,7 @@ pub fn congruence(
     deriv: &mut Deriv,
     a: TermId,
     b: TermId,
-    equals: Vec<EqId>,
+    mut equals: Vec<EqId>,
 ) -> Result<EqId, NoMemory>
     requires sound { IsSound bank.now deriv.old }
     requires first { IsTermAt bank.now a }
@@ -28,7 +28,6 @@ pub fn congruence(
     ensures equal { IfOk result (λ e. Equates (known_of bank.now deriv.new) e (tree_at bank.now a) (tree_at bank.now b) (length (known_of bank.now deriv.old).env)) }
     ensures goes { Goes bank.now bank.now deriv.old deriv.new }
 {
-    let mut equals = equals;
     match (bank.node(a), bank.node(b)) {
         (Node::App(f, _), Node::App(g, _)) => {
             let Some(last) = equals.pop() else {
