@@ -1,5 +1,5 @@
 -- What an item adds, and what its judging costs.
-use Rattle.std.proofs.Common.{◌≡◌, ◌<◌, ◌≤◌, ◌+◌, ℕ, List, [], ◌∷◌, ◌++◌, length, map, Ok, Err, refl, sym, ap, subst, ◌∙◌, arith, ⊎_elim}
+use Rattle.std.proofs.Common.{◌≡◌, ◌<◌, ◌≤◌, ◌+◌, ℕ, List, [], ◌∷◌, ◌++◌, length, map, Ok, Err, sym, ap, subst, ◌∙◌, arith, ⊎_elim}
 use Rattle.std.proofs.lemmas.Bool.{cases_lt}
 use Rattle.std.proofs.lemmas.List.{get_or_append_left, length_push, length-map, length-reverse}
 use Rattle.std.proofs.Math.Seq.{get_or-append_seam}
@@ -20,7 +20,7 @@ use Rattle.ld_defrules.specs.Judged.{Judges, flag_judged}
 use Rattle.fb_base.specs.declared.places.Span.{Span}
 use Rattle.fb_scope.specs.State.{State, numbers, entered, noted}
 use Rattle.fb_scope.specs.Resolve.{made_under}
-use Rattle.book_top.specs.Book.{Book, Reading, Flag, Prim, book_of, with_entry}
+use Rattle.book_top.specs.Book.{Book, Reading, Flag, book_of, with_entry}
 use Rattle.ld_terms.specs.declared.bank.TermId.{TermId}
 use Rattle.fb_parse.specs.Grammar.{Surface}
 use Rattle.book_top.specs.Book.{names_of}

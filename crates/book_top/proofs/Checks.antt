@@ -21,6 +21,7 @@ use Rattle.ld_env.specs.Entries.{entry_of, env_of}
 use Rattle.ld_infer.specs.Standing.{Standing, known, env}
 use Rattle.ld_terms.specs.Item as item
 use Rattle.ld_defrules.specs.Judged.{primitive_of, line_of}
+use Rattle.book_top.specs.declared.status.Summary.{Summary}
 use Rattle.book_top.specs.Book.{Book, closed, Reading, Flag, Prim, Line, book_of, empty}
 use Rattle.book_top.specs.Verdict.{read_item, HasVerdict}
 use Rattle.book_top.specs.Verdict as verdict
@@ -183,12 +184,12 @@ entries_kept s e entries n counted same trees kept =
     counted ∙ ap length same ∙ sym (length-map s.entries (entry_of s.items)) ∙ ap length trees ∙ ap length kept
 
 -- all items are checked and the end is written
-pub checks_done : (budget : ℕ) (before now after : Seen) (out text : List ℕ) (items : List Item) (index all entries : ℕ) (theory : Standing) (scope : State) (writer : Writer) (steps : ℕ)
-    → Checks budget before now out (items_view text items) index theory scope writer steps → index ≡ length items → all ≡ length items → entries ≡ length (env theory)
+pub checks_done : (budget : ℕ) (before now after : Seen) (out text : List ℕ) (items : List Item) (index : ℕ) (theory : Standing) (scope : State) (writer : Writer) (steps : ℕ) (s : Summary)
+    → Checks budget before now out (items_view text items) index theory scope writer steps → index ≡ length items → s.items ≡ length items → s.entries ≡ length (env theory) → s.steps ≡ steps
     → (IsSound theory.items theory.kept → IsTrue now.tells_files → IsWritten theory.items theory.kept writer (content_of now now.target)
     → Derives (content_of after now.target) (env theory) (known theory).notes)
-    → IsTrue before.tells_files → IsCheckDone budget (content_of after out) (items_view text items) (record { items = all; entries = entries; steps = steps })
-checks_done budget before now after out text items index all entries theory scope writer steps h is counted kept end t =
+    → IsTrue before.tells_files → IsCheckDone budget (content_of after out) (items_view text items) s
+checks_done budget before now after out text items index theory scope writer steps s h is counted kept stepped end t =
     let T : Bool → Type 0 = λ b. IsTrue b in
     let P : List ℕ → Type 0 = λ name. IsWritten theory.items theory.kept writer (content_of now name) → Derives (content_of after name) (env theory) (known theory).notes in
     let I : List SurfaceItem → Type 0 = λ is. Accepts budget empty is (known theory).notes (book_of theory scope) steps in
@@ -200,5 +201,5 @@ checks_done budget before now after out text items index all entries theory scop
       derives = subst P (h.target t) (end h.sound (subst T (sym h.told) t)) (h.written t);
       items_are = counted ∙ sym (length_view text items);
       entries_are = kept;
-      steps_are = refl;
+      steps_are = stepped;
     }

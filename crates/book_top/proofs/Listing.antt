@@ -2,7 +2,6 @@
 use Rattle.std.proofs.Common.{◌≡◌, ◌<◌, ◌≤◌, ◌+◌, ◌-◌, ℕ, zero, suc, List, [], ◌∷◌, length, get_or, drop, Result, Ok, Err, IsOk, ⊎_elim, refl, sym, ap, subst, ◌∙◌, arith}
 use Rattle.std.proofs.lemmas.Bool.{cases_lt}
 use Rattle.std.proofs.lemmas.List.{drop_more}
-use Rattle.std.proofs.Math.ListN.{drop_of_length-le}
 use Rattle.fb_parse.specs.declared.tree.Tree as code
 use Rattle.fb_parse.specs.Grammar.{Surfaces, none, more}
 use Rattle.fb_parse.specs.View.{view, views}
@@ -55,9 +54,6 @@ module _ (s : State) (names : List (List ℕ)) where
   lists_behind ts vs u us i a l at e is =
       lists_next ts vs us i a l at e ∙ ap (λ r. r >>= (λ u. listed s names (vs ▸ u) (views (drop (i + 1) us)))) is
 
-  pub lists_end : (ts vs : Trees) (us : List code.Tree) (i : ℕ) → length us ≤ i → ListsOn ts vs us i → listed s names ts (views us) ≡ Ok vs
-  lists_end ts vs us i l e = e ∙ ap (λ xs. listed s names vs (views xs)) (drop_of_length-le us l)
-
   pub element_ok : (ts vs : Trees) (us : List code.Tree) (i : ℕ) (a : code.Tree) → i < length us → a ≡ get_or us i a → ListsOn ts vs us i
       → IsOk (listed s names ts (views us)) → IsOk (tree_of s names (view a))
   element_ok ts vs us i a l at e ok =
@@ -71,9 +67,6 @@ number_views (u ∷ us) = ap suc (number_views us)
 -- A front of a small list is small, and so is its last tree.
 pub front_small : (us : Trees) (u : Tree) → IsSmall (Many (us ▸ u)) → IsSmall (Many us)
 front_small us u h = record { height = omega (arith, h.height); index = omega (arith, h.index) }
-
-pub last_small : (us : Trees) (u : Tree) → IsSmall (Many (us ▸ u)) → IsSmall (One u)
-last_small us u h = record { height = omega (arith, h.height); index = omega (arith, h.index) }
 
 -- so is the list of a small instance
 pub arguments_small : (k : ℕ) (us : Trees) → IsSmall (One (Const k us)) → IsSmall (Many us)

@@ -25,7 +25,7 @@ use Rattle.book_top.specs.Verdict.{Outcome, Answers, Accepted}
 use Rattle.book_top.specs.Spells.{none, more, item_book, item_note}
 use Rattle.book_top.specs.Judged.{JudgesItem, outcome_of}
 use Rattle.book_top.specs.Chunks.{stop_by}
-use Rattle.book_top.specs.Left.{IsFront, IsMidway, IsNext, IsKept, IsLeft, BeginsFile, between, begun, within}
+use Rattle.book_top.specs.Left.{IsFront, IsMidway, IsKept, BeginsFile, between, begun, within}
 use Rattle.book_top.specs.Left as left
 use Rattle.book_top.specs.Checked.{IsOutcome, stop_at, StopsItem, StopsEnd, IsChecked}
 use Rattle.book_top.proofs.Sessions.{front_of, never_empty}

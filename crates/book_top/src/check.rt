@@ -1,10 +1,13 @@
 //! The check of a parsed book, and the writing of its derivation.
-ghost use Rattle.std.specs.Prelude.{◌≡◌, ◌≤◌, true, IsTrue, length, All, Some, IfSome, IfOk, IfErr, OnOk, IsErrOf};
+ghost use Rattle.std.specs.Prelude.{◌≡◌, ◌≤◌, true, IsTrue, List, [], length, All, Some, IfSome, IfOk, IfErr, OnOk, IsErrOf};
 ghost use Rattle.fb_base.specs.Desk.{Rose, OthersStay, content_of};
 ghost use Rattle.fb_parse.specs.ItemView.{item_view, items_view};
+ghost use Rattle.fb_scope.specs.State.{start};
 ghost use Rattle.ld_terms.specs.Tree.{Nil, count};
+ghost use Rattle.ld_terms.specs.Item as term;
+ghost use Rattle.ld_terms.specs.Known.{nothing};
 ghost use Rattle.ld_record.specs.Kept.{IsSound};
-ghost use Rattle.ld_record.specs.Growth.{Knows};
+ghost use Rattle.ld_record.specs.Growth.{Knows, Adds};
 ghost use Rattle.dr_text.specs.Spelling.{header as header_bytes};
 ghost use Rattle.dr_text.specs.Written.{IsWritten, last_judgement};
 ghost use Rattle.dr_text.specs.Derives.{Derives};
@@ -184,6 +187,31 @@ fn finish<D: Desk>(
     Ok(())
 }
 
+// A theory without entries, with nothing open, and nothing of it written but the header.
+fn fresh(alloc: Global) -> Result<(Theory, Scope, Writer), NoMemory>
+    ensures known { IfOk result (λ all. Adds nothing (known all.0)) }
+    ensures sound { IfOk result (λ all. IsSound all.0.items all.0.kept) }
+    ensures context { IfOk result (λ all. all.0.context ≡ Nil) }
+    ensures scope { IfOk result (λ all. all.1 ≡ start) }
+    ensures writer { IfOk result (λ all. (items : List term.Item) → IsWritten items [] all.2 header_bytes) }
+{
+    let theory = Theory::new(alloc)?;
+    Ok((theory, Scope::new(alloc), Writer::new(alloc)))
+}
+
+// What a check of these items says where it is done.
+fn summary(theory: &Theory, items: &[Item], steps: u64) -> Summary
+    ensures items { result.items ≡ length items.now }
+    ensures entries { result.entries ≡ length (env theory.now) }
+    ensures steps { result.steps ≡ steps }
+{
+    Summary {
+        items: items.len() as u64,
+        entries: theory.env().len() as u64,
+        steps,
+    }
+}
+
 /// Checks the items of a book with this text, each within the budget, and writes the derivation.
 pub fn check_items<D: Desk>(
     alloc: Global,
@@ -207,9 +235,7 @@ pub fn check_items<D: Desk>(
     ensures never { IsErrOf result Stop.Desk → IsTrue (D.seen desk.old).tells_files → IsTrue (D.seen desk.old).sound → ⊥ }
 {
     begin(desk, out)?;
-    let mut theory = Theory::new(alloc)?;
-    let mut scope = Scope::new(alloc);
-    let mut writer = Writer::new(alloc);
+    let (mut theory, mut scope, mut writer) = fresh(alloc)?;
     let mut steps = 0;
     for (number, item) in items.iter().enumerate() {
         steps += check_item(
@@ -225,9 +251,5 @@ pub fn check_items<D: Desk>(
         )?;
     }
     finish(alloc, &mut theory, &mut writer, desk)?;
-    Ok(Summary {
-        items: items.len() as u64,
-        entries: theory.env().len() as u64,
-        steps,
-    })
+    Ok(summary(&theory, items, steps))
 }

@@ -12,22 +12,23 @@ use Rattle.book_top.specs.Book.{names_of}
 use Rattle.book_top.specs.Names.{tree_of, applied, listed, named, implied as implied_variables, variable_count}
 use Rattle.book_top.specs.Built.{read, read_list, AreOpen}
 use Rattle.book_top.proofs.Binds.{ok_first, ok_read, name_read, inst_read}
-use Rattle.book_top.proofs.Continuing.{continues_on, continues_refl, stands_term, stands_tree, stands_list, list_is, built_as, added, tree_moved, applied_moved, part_stops}
+use Rattle.ld_infer.proofs.Going.{continues_refl, continues_trans}
+use Rattle.book_top.proofs.Continuing.{stands_term, stands_tree, stands_list, list_is, built_as, added, tree_moved, applied_moved, part_stops}
 use Rattle.book_top.proofs.Applying.{GoesOn, goes_behind, argument_ok, argument_small, head_read, function_read_small}
 use Rattle.book_top.proofs.Listing.{ListsOn, lists_behind, element_ok, element_small, list_small, arguments_small, constant_read}
 use Rattle.book_top.proofs.build.+build.Goals as goal
 
 pub build-returns-in_ok-range-in-Arrow-clause-continues : goal.build-returns-in_ok-range-in-Arrow-clause-continues
 build-returns-in_ok-range-in-Arrow-clause-continues t c =
-    continues_on _ _ _ c.build.ensures.continues (continues_on _ _ _ c.build_under.ensures.continues c.add-in-Arrow.ensures.continues)
+    continues_trans _ _ _ c.build.ensures.continues (continues_trans _ _ _ c.build_under.ensures.continues c.add-in-Arrow.ensures.continues)
 
 pub build-returns-in_ok-range-in-All-clause-continues : goal.build-returns-in_ok-range-in-All-clause-continues
 build-returns-in_ok-range-in-All-clause-continues t c =
-    continues_on _ _ _ c.build-in-All.ensures.continues (continues_on _ _ _ c.build_under-in-All.ensures.continues c.add-in-All.ensures.continues)
+    continues_trans _ _ _ c.build-in-All.ensures.continues (continues_trans _ _ _ c.build_under-in-All.ensures.continues c.add-in-All.ensures.continues)
 
 pub build-returns-in_ok-body-in-Fun-clause-continues : goal.build-returns-in_ok-body-in-Fun-clause-continues
 build-returns-in_ok-body-in-Fun-clause-continues t c =
-    continues_on _ _ _ c.build-in-Fun.ensures.continues (continues_on _ _ _ c.build_under-in-Fun.ensures.continues c.add-in-Fun.ensures.continues)
+    continues_trans _ _ _ c.build-in-Fun.ensures.continues (continues_trans _ _ _ c.build_under-in-Fun.ensures.continues c.add-in-Fun.ensures.continues)
 
 pub build-returns-in-Ok-Var-clause-built : goal.build-returns-in-Ok-Var-clause-built
 build-returns-in-Ok-Var-clause-built t c =
@@ -120,7 +121,7 @@ apply-term_is_read-requires t c =
     }
 
 pub apply-returns-in_err-term-clause-continues : goal.apply-returns-in_err-term-clause-continues
-apply-returns-in_err-term-clause-continues t c = continues_on _ _ _ c.loop-argument.invariant.1 c.apply_to.ensures.continues
+apply-returns-in_err-term-clause-continues t c = continues_trans _ _ _ c.loop-argument.invariant.1 c.apply_to.ensures.continues
 
 pub apply-returns-in_err-term-clause-built : goal.apply-returns-in_err-term-clause-built
 apply-returns-in_err-term-clause-built t c =
@@ -160,7 +161,7 @@ apply-loop-argument-preserved t c =
     let Small : spec.Tree → Type 0 = λ x. IsSmall (One x) in
     let On : spec.Tree → Type 0 = λ x. GoesOn s names f x us (l.argument-index + 1) in (
       c.in_ok-term.ensures.same ∙ i.0,
-      continues_on _ _ _ i.1 c.apply_to.ensures.continues,
+      continues_trans _ _ _ i.1 c.apply_to.ensures.continues,
       stands_term new.items term whole built.0,
       subst Small (sym stands) built.1,
       subst On (ap (λ x. spec.App g (read x)) same ∙ sym stands)
@@ -221,10 +222,10 @@ instance-returns-in_err-first-clause-built t c =
     c.from_residual.ensures.1
 
 pub instance-returns-clause-continues : goal.instance-returns-clause-continues
-instance-returns-clause-continues t c = continues_on _ _ _ c.implied_list.ensures.continues (continues_on _ _ _ c.list_on.ensures.continues c.add.ensures.continues)
+instance-returns-clause-continues t c = continues_trans _ _ _ c.implied_list.ensures.continues (continues_trans _ _ _ c.list_on.ensures.continues c.add.ensures.continues)
 
 pub list_on-returns-in_err-list-clause-continues : goal.list_on-returns-in_err-list-clause-continues
-list_on-returns-in_err-list-clause-continues t c = continues_on _ _ _ c.loop-element.invariant.1 c.list_more.ensures.continues
+list_on-returns-in_err-list-clause-continues t c = continues_trans _ _ _ c.loop-element.invariant.1 c.list_more.ensures.continues
 
 pub list_on-returns-in_err-list-clause-built : goal.list_on-returns-in_err-list-clause-built
 list_on-returns-in_err-list-clause-built t c =
@@ -264,7 +265,7 @@ list_on-loop-element-preserved t c =
     let Small : spec.Trees → Type 0 = λ x. IsSmall (Many x) in
     let On : spec.Trees → Type 0 = λ x. ListsOn s names ts x us (l.element-index + 1) in (
       c.in_ok-list.ensures.same ∙ i.0,
-      continues_on _ _ _ i.1 c.list_more.ensures.continues,
+      continues_trans _ _ _ i.1 c.list_more.ensures.continues,
       stands_list new.items list whole built.0,
       subst Small (sym stands) built.1,
       subst On (ap (λ x. vs ▸ read x) same ∙ sym stands)

@@ -3,12 +3,13 @@ use Rattle.ld_terms.specs.Tree.{Trees, Var, ◌▸◌}
 use Rattle.ld_terms.specs.Item.{Many, IsSmall}
 use Rattle.ld_terms.specs.Bank.{ListStandsFor, list_at}
 use Rattle.book_top.specs.Names.{implied, variable_count}
-use Rattle.book_top.proofs.Continuing.{continues_on, list_is, part_stops}
+use Rattle.ld_infer.proofs.Going.{continues_trans}
+use Rattle.book_top.proofs.Continuing.{list_is, part_stops}
 use Rattle.book_top.proofs.Listing.{implied_small}
 use Rattle.book_top.proofs.build.implied_list.Goals as goal
 
 pub returns-in_err-list-2-clause-continues : goal.returns-in_err-list-2-clause-continues
-returns-in_err-list-2-clause-continues c = continues_on _ _ _ c.loop-place.invariant.0 c.variable_more.ensures.continues
+returns-in_err-list-2-clause-continues c = continues_trans _ _ _ c.loop-place.invariant.0 c.variable_more.ensures.continues
 
 pub returns-in_err-list-2-clause-built : goal.returns-in_err-list-2-clause-built
 returns-in_err-list-2-clause-built c =
@@ -31,4 +32,4 @@ loop-place-preserved c =
     let same : u ≡ implied v (suc l.place) = λ i. list_is l.theory.items l.list (implied v l.place) l.invariant.1 i ▸ Var (index i) in
     let P : Trees → Type 0 = λ us. ListStandsFor c.variable_more.new.theory.items c.in_ok-list-2.list us × IsSmall (Many us) in
     let built = subst P (same ∙ ap (implied v) (sym (add-one l.place))) c.in_ok-list-2.ensures.built in
-    (continues_on _ _ _ l.invariant.0 c.variable_more.ensures.continues, built.0, built.1)
+    (continues_trans _ _ _ l.invariant.0 c.variable_more.ensures.continues, built.0, built.1)

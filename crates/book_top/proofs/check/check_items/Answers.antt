@@ -1,7 +1,7 @@
-use Rattle.std.proofs.Common.{arith, refl, length}
+use Rattle.std.proofs.Common.{arith, length, ap, ◌∙◌}
 use Rattle.std.proofs.lemmas.Result.{err_from_is_err_and}
 use Rattle.fb_parse.specs.ItemView.{items_view}
-use Rattle.book_top.proofs.Checks.{checks_none, checks_more, entries_kept, checks_done}
+use Rattle.book_top.proofs.Checks.{checks_none, checks_more, checks_done}
 use Rattle.book_top.proofs.Stops.{item_stops, end_stops, begin_stops, header_left}
 use Rattle.book_top.proofs.check.check_items.Goals as goal
 
@@ -9,7 +9,7 @@ pub loop-number-init : goal.loop-number-init
 loop-number-init g c =
     checks_none _ _ _ _ _ _ _ _
     c.begin.ensures.told c.begin.ensures.tells_said c.begin.ensures.said c.in_ok-begin.ensures.started c.in_ok-begin.ensures.target c.in_ok-begin.ensures.header c.begin.ensures.others c.begin.ensures.never_falls c.begin.ensures.sound_stays
-    c.in_ok-theory.ensures.known c.in_ok-theory.ensures.sound c.in_ok-theory.ensures.context c.new-scope.ensures c.new-writer.ensures
+    c.in_ok-theory.ensures.known c.in_ok-theory.ensures.sound c.in_ok-theory.ensures.context c.in_ok-theory.ensures.scope c.in_ok-theory.ensures.writer
 
 pub loop-number-preserved : goal.loop-number-preserved
 loop-number-preserved g c =
@@ -48,5 +48,5 @@ returns-in_err-finish-clause-answer g c = λ t.
 pub returns-clause-answer : goal.returns-clause-answer
 returns-clause-answer g c =
     checks_done c.args.budget (g.D.Desk.seen c.args.desk.now) (g.D.Desk.seen c.loop-number.desk) (g.D.Desk.seen c.finish.new.desk) c.args.out.now c.args.text.now c.args.items.now
-    c.loop-number.number (length c.args.items.now) _ c.loop-number.theory c.loop-number.scope c.loop-number.writer c.loop-number.steps
-    c.loop-number.invariant (omega arith) refl (entries_kept c.finish.new.theory _ _ _ c.len.ensures c.env.ensures.entries c.env.ensures.trees c.in_ok-finish.ensures.entries) c.in_ok-finish.ensures.done
+    c.loop-number.number c.loop-number.theory c.loop-number.scope c.loop-number.writer c.loop-number.steps c.summary.result
+    c.loop-number.invariant (omega arith) c.summary.ensures.items (c.summary.ensures.entries ∙ ap length c.in_ok-finish.ensures.entries) c.summary.ensures.steps c.in_ok-finish.ensures.done

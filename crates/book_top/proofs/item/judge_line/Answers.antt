@@ -15,7 +15,8 @@ use Rattle.book_top.specs.Book.{names_of, book_of, Line}
 use Rattle.book_top.specs.Names.{tree_of}
 use Rattle.book_top.specs.Built.{read}
 use Rattle.book_top.specs.Told.{StopsReading}
-use Rattle.book_top.proofs.Continuing.{stands_tree, stands_later, continues_on, goes_on}
+use Rattle.ld_infer.proofs.Going.{continues_trans}
+use Rattle.book_top.proofs.Continuing.{stands_tree, stands_later, goes_on}
 use Rattle.book_top.proofs.Formed.{readable}
 use Rattle.book_top.proofs.Adding.{same_line, built_same, judging_stops, entry_judged_so, noted_step}
 use Rattle.book_top.proofs.item.judge_line.Goals as goal
@@ -23,7 +24,7 @@ use Rattle.book_top.proofs.item.judge_line.Goals as goal
 pub define-requires-clause-of : goal.define-requires-clause-of
 define-requires-clause-of c =
     readable c.args.theory.now c.build-2.new.theory c.args.scope.now (view c.args.of) c.in_ok-of.of c.requires.step
-    (continues_on _ _ _ c.build.ensures.continues c.build-2.ensures.continues) c.requires.read_type
+    (continues_trans _ _ _ c.build.ensures.continues c.build-2.ensures.continues) c.requires.read_type
     (stands_later c.build.new.theory c.build-2.new.theory _ _ c.build-2.ensures.continues c.in_ok-of.ensures.built.0)
 
 pub define-requires-clause-body : goal.define-requires-clause-body
@@ -31,7 +32,7 @@ define-requires-clause-body c =
     let built = built_same c.args.theory.now c.build.new.theory c.build-2.new.theory c.args.scope.now c.build.new.scope (view c.args.body) c.in_ok-body.body
     c.in_ok-of.ensures.same c.build.ensures.continues.adds.env c.in_ok-body.ensures.built in
     readable c.args.theory.now c.build-2.new.theory c.args.scope.now (view c.args.body) c.in_ok-body.body c.requires.step
-    (continues_on _ _ _ c.build.ensures.continues c.build-2.ensures.continues) c.requires.read_body built.0
+    (continues_trans _ _ _ c.build.ensures.continues c.build-2.ensures.continues) c.requires.read_body built.0
 
 pub returns-in-Ok-note-clause-answer : goal.returns-in-Ok-note-clause-answer
 returns-in-Ok-note-clause-answer c =
@@ -46,7 +47,7 @@ returns-in-Ok-note-clause-answer c =
     let t' = tree_at mid.items c.in_ok-of.of in
     let of_built = c.in_ok-of.ensures.built in
     let built = built_same old first mid s c.build.new.scope (view c.args.body) c.in_ok-body.body c.in_ok-of.ensures.same c.build.ensures.continues.adds.env c.in_ok-body.ensures.built in
-    let on = continues_on old first mid c.build.ensures.continues c.build-2.ensures.continues in
+    let on = continues_trans old first mid c.build.ensures.continues c.build-2.ensures.continues in
     let body_is = stands_tree mid.items c.in_ok-body.body m built.0 in
     let is = stands_tree mid.items c.in_ok-of.of t (stands_later first mid c.in_ok-of.of t c.build-2.ensures.continues of_built.0) in
     let before = account mid c.new-job.result in
@@ -63,13 +64,13 @@ returns-in-Ok-note-clause-step c =
     let mid = c.build-2.new.theory in
     noted_step c.args.theory.now mid c.define.new.theory c.args.scope.now c.build-2.new.scope c.note.new.self
     (line_of c.args.name.now mid.context (tree_at mid.items c.in_ok-body.body) (tree_at mid.items c.in_ok-of.of))
-    c.requires.step (continues_on _ _ _ c.build.ensures.continues c.build-2.ensures.continues) c.in-Ok.ensures.judges.1 refl (c.in_ok-body.ensures.same ∙ c.in_ok-of.ensures.same) c.in-Ok-note.ensures.ok
+    c.requires.step (continues_trans _ _ _ c.build.ensures.continues c.build-2.ensures.continues) c.in-Ok.ensures.judges.1 refl (c.in_ok-body.ensures.same ∙ c.in_ok-of.ensures.same) c.in-Ok-note.ensures.ok
 
 pub returns-in-Ok-note-clause-goes : goal.returns-in-Ok-note-clause-goes
-returns-in-Ok-note-clause-goes c = goes_on _ _ _ (continues_on _ _ _ c.build.ensures.continues c.build-2.ensures.continues) c.define.ensures.goes
+returns-in-Ok-note-clause-goes c = goes_on _ _ _ (continues_trans _ _ _ c.build.ensures.continues c.build-2.ensures.continues) c.define.ensures.goes
 
 pub returns-clause-goes : goal.returns-clause-goes
-returns-clause-goes c = goes_on _ _ _ (continues_on _ _ _ c.build.ensures.continues c.build-2.ensures.continues) c.define.ensures.goes
+returns-clause-goes c = goes_on _ _ _ (continues_trans _ _ _ c.build.ensures.continues c.build-2.ensures.continues) c.define.ensures.goes
 
 pub returns-clause-answer : goal.returns-clause-answer
 returns-clause-answer c =
@@ -83,7 +84,7 @@ returns-clause-answer c =
     let t' = tree_at mid.items c.in_ok-of.of in
     let of_built = c.in_ok-of.ensures.built in
     let built = built_same old first mid s c.build.new.scope (view c.args.body) c.in_ok-body.body c.in_ok-of.ensures.same c.build.ensures.continues.adds.env c.in_ok-body.ensures.built in
-    let on = continues_on old first mid c.build.ensures.continues c.build-2.ensures.continues in
+    let on = continues_trans old first mid c.build.ensures.continues c.build-2.ensures.continues in
     let body_is = stands_tree mid.items c.in_ok-body.body m built.0 in
     let is = stands_tree mid.items c.in_ok-of.of t (stands_later first mid c.in_ok-of.of t c.build-2.ensures.continues of_built.0) in
     let items = c.define.new.theory.items in
