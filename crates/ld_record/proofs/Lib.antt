@@ -12,3 +12,4 @@ pub mod Derived
 pub mod Named
 pub mod CallerLemmas
 pub mod Following
+pub mod Sampled

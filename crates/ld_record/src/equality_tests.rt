@@ -7,7 +7,7 @@ ghost use Rattle.ld_record.specs.Tests.{same_type};
 
 use crate::Deriv;
 use crate::record::{EqId, EqStep};
-use crate::tests::star;
+use crate::sample::star;
 use fb_base::NoMemory;
 use ld_terms::{Bank, Node, TermFault, TermId};
 use std::test::Fail;

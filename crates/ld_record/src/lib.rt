@@ -7,6 +7,8 @@ mod equality_tests;
 pub mod laws;
 mod record;
 #[cfg(test)]
+mod sample;
+#[cfg(test)]
 mod tests;
 
 pub use deriv::Deriv;

@@ -1,4 +1,4 @@
-use Rattle.ld_record.proofs.tests.star.Goals as goal
+use Rattle.ld_record.proofs.sample.star.Goals as goal
 
 pub add-requires : goal.add-requires
 add-requires c = tt

@@ -7,7 +7,7 @@ use Rattle.ld_record.specs.Tests.{judged}
 use Rattle.ld_record.proofs.Growing.{knows_later}
 use Rattle.ld_record.proofs.CallerLemmas.{node_fits, empty_known}
 use Rattle.ld_record.proofs.Following.{by_weak, says_at, number_said, context_fits, extended_known}
-use Rattle.ld_record.proofs.tests.weakened.Goals as goal
+use Rattle.ld_record.proofs.sample.weakened.Goals as goal
 
 pub extend-requires-clause-fits : goal.extend-requires-clause-fits
 extend-requires-clause-fits c =

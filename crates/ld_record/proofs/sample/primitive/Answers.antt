@@ -1,6 +1,6 @@
 use Rattle.ld_record.specs.Kept.{known_of}
 use Rattle.ld_record.proofs.Following.{primitive_fits}
-use Rattle.ld_record.proofs.tests.primitive.Goals as goal
+use Rattle.ld_record.proofs.sample.primitive.Goals as goal
 
 pub entry-requires-clause-fits : goal.entry-requires-clause-fits
 entry-requires-clause-fits c =

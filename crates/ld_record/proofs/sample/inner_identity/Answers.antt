@@ -4,7 +4,7 @@ use Rattle.ld_terms.specs.Tree.{Tree, ◌▸◌}
 use Rattle.ld_terms.specs.Put.{lift}
 use Rattle.ld_terms.specs.Derivable.{IsSort}
 use Rattle.ld_terms.specs.Known.{Judgement}
-use Rattle.ld_record.proofs.tests.inner_identity.Goals as goal
+use Rattle.ld_record.proofs.sample.inner_identity.Goals as goal
 
 pub emit-requires-clause-fits : goal.emit-requires-clause-fits
 emit-requires-clause-fits c =

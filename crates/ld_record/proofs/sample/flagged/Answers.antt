@@ -2,7 +2,7 @@ use Rattle.std.proofs.Common.{ap, sym, ◌∙◌, subst}
 use Rattle.ld_terms.specs.Tree.{Tree}
 use Rattle.ld_terms.specs.Derivable.{IsSort}
 use Rattle.ld_terms.specs.Known.{Judgement}
-use Rattle.ld_record.proofs.tests.flagged.Goals as goal
+use Rattle.ld_record.proofs.sample.flagged.Goals as goal
 
 pub flag-requires-clause-fits : goal.flag-requires-clause-fits
 flag-requires-clause-fits c =

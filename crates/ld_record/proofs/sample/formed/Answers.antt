@@ -6,7 +6,7 @@ use Rattle.ld_record.specs.Kept.{known_of}
 use Rattle.ld_record.specs.Tests.{judged}
 use Rattle.ld_record.proofs.CallerLemmas.{node_fits}
 use Rattle.ld_record.proofs.Following.{by_form, says_empty, number_said}
-use Rattle.ld_record.proofs.tests.formed.Goals as goal
+use Rattle.ld_record.proofs.sample.formed.Goals as goal
 
 pub emit-requires-clause-fits : goal.emit-requires-clause-fits
 emit-requires-clause-fits c =

@@ -11,7 +11,7 @@ use Rattle.ld_record.specs.Tests.{judged}
 use Rattle.ld_record.proofs.Judged.{judge_none}
 use Rattle.ld_record.proofs.CallerLemmas.{node_fits}
 use Rattle.ld_record.proofs.Following.{by_inst_prim, says_empty, number_said}
-use Rattle.ld_record.proofs.tests.typed.Goals as goal
+use Rattle.ld_record.proofs.sample.typed.Goals as goal
 
 pub emit-requires-clause-fits : goal.emit-requires-clause-fits
 emit-requires-clause-fits c =

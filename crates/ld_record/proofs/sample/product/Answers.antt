@@ -3,7 +3,7 @@ use Rattle.ld_terms.specs.Tree.{Pi, Const, Nil}
 use Rattle.ld_terms.specs.Item.{Item, One, tree, IsOne}
 use Rattle.ld_terms.specs.Bank.{Holds, IsTermAt}
 use Rattle.ld_record.proofs.CallerLemmas.{term_there}
-use Rattle.ld_record.proofs.tests.product.Goals as goal
+use Rattle.ld_record.proofs.sample.product.Goals as goal
 
 pub add-requires : goal.add-requires
 add-requires c =

@@ -3,7 +3,7 @@ use mathlib.Core.Path.{ap₂}
 use Rattle.ld_terms.specs.Tree.{App, Pi, Const, Nil}
 use Rattle.ld_terms.specs.Item.{tree, IsOne}
 use Rattle.ld_terms.specs.Known.{Judgement}
-use Rattle.ld_record.proofs.tests.applied.Goals as goal
+use Rattle.ld_record.proofs.sample.applied.Goals as goal
 
 pub emit-requires-clause-fits : goal.emit-requires-clause-fits
 emit-requires-clause-fits c =
