@@ -7,13 +7,15 @@ use Rattle.ld_terms.specs.Bank.{StandsFor, IsTermAt, Extends, tree_at, listed}
 use Rattle.ld_terms.specs.declared.bank.TermId.{TermId}
 use Rattle.ld_terms.specs.Known.{Known, Judgement, line_entry}
 use Rattle.ld_terms.specs.Entry.{Env, IsFresh, Defined}
+use Rattle.ld_terms.specs.Named.{IsNamed}
 use Rattle.ld_env.specs.declared.env.Entry.{Entry}
 use Rattle.ld_env.specs.Named.{Named, named, names_of}
 use Rattle.ld_env.specs.Entries.{body_of, env_of, AreLive, IsLiveEntry}
 use Rattle.ld_env.proofs.CallerLemmas.{is_fresh, length-env_of, live-push}
 use Rattle.ld_record.specs.declared.record.JudgeId.{JudgeId}
 use Rattle.ld_record.specs.declared.record.Judge.{Judge}
-use Rattle.ld_record.specs.Kept.{FitsEntry}
+use Rattle.ld_record.specs.declared.record.Kept.{Kept}
+use Rattle.ld_record.specs.Kept.{known_of, FitsEntry, IsSound}
 use Rattle.ld_record.specs.Growth.{Knows, KnowsContext, Adds, over_first}
 use Rattle.ld_record.proofs.CallerLemmas.{Says}
 use Rattle.ld_reduce.proofs.Going.{term_of}
@@ -81,3 +83,20 @@ lines_are e0 e1 e2 e3 n1 n2 n3 j1 j2 j3 none first second third is1 is2 is3 of1 
 -- what holds over the lines of a tree holds of its number, over an environment that is theirs
 pub over_lines : (P : Env → Tree → Type 0) (old new : List Item) (env : Env) (t : TermId) (u : Tree) → Extends old new → StandsFor old t u → env ≡ lines → P lines u → P env (tree_at new t)
 over_lines P old new env t u kept stands is h = subst (λ e. P e (tree_at new t)) (sym is) (subst (λ x. P lines x) (sym (ap tree (kept.kept t stands.live ∙ stands.item))) h)
+
+-- over no records
+pub none_sound : (items : List Item) (kept : List Kept) → kept ≡ [] → IsSound items kept
+none_sound items kept none = subst (IsSound items) (sym none) (record { all = tt })
+
+pub none_live : (items : List Item) (env : List Named) → env ≡ [] → AreLive items env
+none_live items env none = subst (AreLive items) (sym none) (record { each = All-nil _ })
+
+pub none_named : (items : List Item) (kept : List Kept) (t : TermId) → kept ≡ [] → IsNamed [] (tree_at items t) → IsNamed (known_of items kept).env (tree_at items t)
+none_named items kept t none h =
+    let P : List Kept → Type 0 = λ ks. IsNamed (known_of items ks).env (tree_at items t) in
+    subst P (sym none) h
+
+pub named_by : (items : List Item) (kept : List Kept) (t : TermId) (u : Tree) → kept ≡ [] → StandsFor items t u → IsNamed [] u → IsNamed (known_of items kept).env (tree_at items t)
+named_by items kept t u none stands h =
+    let P : Item → Type 0 = λ x. IsNamed [] (tree x) in
+    none_named items kept t none (subst P (sym stands.item) h)

@@ -13,7 +13,7 @@ ghost use Rattle.ld_reduce.specs.Samples as sample;
 use fb_base::{NoMemory, Text};
 use ld_env::{Entry, Env};
 use ld_record::{Deriv, Judge, JudgeId, Step};
-use ld_terms::{Bank, Node, TermId, Terms};
+use ld_terms::{Bank, Node, TermFault, TermId, Terms};
 use std::alloc::Global;
 use std::test::Fail;
 
@@ -241,6 +241,41 @@ fn binary(alloc: Global, body: TermId, of: TermId) -> Result<Entry, Fail>
     })
 }
 
+// `*`, `box`, the variables of the index 0 and 1, and the terms of the first two lines.
+fn terms(bank: &mut Bank) -> Result<(TermId, TermId, TermId, TermId, TermId, TermId), TermFault>
+    ensures terms { IfOk result (λ ts. sample.AreTerms bank.new ts.0 ts.1 ts.2 ts.3 ts.4 ts.5) }
+    ensures kept { OnOk result (Extends bank.old bank.new) }
+{
+    let star = bank.add(Node::Star)?;
+    let over = bank.add(Node::Box_)?;
+    let inner = bank.add(Node::Var(0))?;
+    let outer = bank.add(Node::Var(1))?;
+    let all = bank.add(Node::Pi(star, star))?;
+    let function = bank.add(Node::Lam(star, inner))?;
+    Ok((star, over, inner, outer, all, function))
+}
+
+// The judgements of the three lines.
+fn judgements(
+    deriv: &mut Deriv,
+    bank: &Bank,
+    terms: (TermId, TermId, TermId, TermId, TermId, TermId),
+) -> Result<(JudgeId, JudgeId, JudgeId), NoMemory>
+    requires none { deriv.old ≡ [] }
+    requires terms { sample.AreTerms bank.now terms.0 terms.1 terms.2 terms.3 terms.4 terms.5 }
+    ensures judged { IfOk result (λ js. sample.AreJudged (known_of bank.now deriv.new) js.0 js.1 js.2) }
+    ensures sound { OnOk result (IsSound bank.now deriv.new) }
+{
+    let (star, over, inner, outer, all, function) = terms;
+    let sort = sort(deriv, bank, star, over)?;
+    let within = inner_sort(deriv, bank, star, over, sort)?;
+    let x = variable(deriv, bank, inner, star, sort, within)?;
+    let behind = outer_variable(deriv, bank, outer, star, x, within)?;
+    let formed = product(deriv, bank, all, over, sort, within)?;
+    let same = identity(deriv, bank, function, all, x, formed)?;
+    Ok((formed, same, behind))
+}
+
 /// The lines.
 pub(crate) fn lines(
     alloc: Global,
@@ -256,18 +291,10 @@ pub(crate) fn lines(
     ensures lines { OnOk result ((known_of bank.new deriv.new).env ≡ sample.lines) }
     ensures kept { OnOk result (Extends bank.old bank.new) }
 {
-    let star = bank.add(Node::Star)?;
-    let over = bank.add(Node::Box_)?;
-    let inner = bank.add(Node::Var(0))?;
-    let outer = bank.add(Node::Var(1))?;
-    let all = bank.add(Node::Pi(star, star))?;
-    let function = bank.add(Node::Lam(star, inner))?;
-    let sort = sort(deriv, bank, star, over)?;
-    let within = inner_sort(deriv, bank, star, over, sort)?;
-    let x = variable(deriv, bank, inner, star, sort, within)?;
-    let behind = outer_variable(deriv, bank, outer, star, x, within)?;
-    let formed = product(deriv, bank, all, over, sort, within)?;
-    let same = identity(deriv, bank, function, all, x, formed)?;
+    let terms = terms(bank)?;
+    let judged = judgements(deriv, bank, terms)?;
+    let (star, over, _, outer, all, function) = terms;
+    let (formed, same, behind) = judged;
     let names = name(alloc, b'q')?;
     line(bank, env, deriv, names, closed(alloc, all, over), formed)?;
     let names = name(alloc, b'f')?;

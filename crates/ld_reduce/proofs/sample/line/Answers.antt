@@ -1,6 +1,11 @@
-use Rattle.std.proofs.Common.{◌≡◌, Ok, Err}
-use Rattle.ld_terms.specs.Known.{judgement_at}
+use Rattle.std.proofs.Common.{◌≡◌, ◌∙◌, ◌++◌, ◌∷◌, [], Ok, Err, length, ap, arith}
+use Rattle.std.proofs.lemmas.List.{length_push}
+use mathlib.Core.Path.{ap₂}
+use Rattle.ld_terms.specs.Entry.{Env}
+use Rattle.ld_env.specs.Named.{named}
+use Rattle.ld_terms.specs.Known.{Known, Judgement, judgement_at, line_entry}
 use Rattle.ld_record.specs.Kept.{known_of}
+use Rattle.ld_env.proofs.CallerLemmas.{length-env_of}
 use Rattle.ld_env.specs.declared.env.EnvFault.{EnvFault}
 use Rattle.ld_reduce.proofs.Sampled.{line_fits, line_live}
 use Rattle.ld_reduce.proofs.sample.line.Goals as goal
@@ -16,3 +21,32 @@ entry-requires-clause-fits c =
 
 pub returns-clause-live : goal.returns-clause-live
 returns-clause-live c = line_live c.args.bank.now c.args.env.now c.push.new.self c.args.names.0 c.args.entry c.requires.live c.requires.judged.there c.in_ok-push.ensures.ok
+
+pub lift_by_def-requires-clause-sound : goal.lift_by_def-requires-clause-sound
+lift_by_def-requires-clause-sound c = c.requires.sound
+
+pub lift_by_def-requires-clause-live : goal.lift_by_def-requires-clause-live
+lift_by_def-requires-clause-live c = c.requires.judged.live
+
+pub lift_by_def-requires-clause-from : goal.lift_by_def-requires-clause-from
+lift_by_def-requires-clause-from c = omega (arith, c.requires.judged.entries)
+
+pub lift_by_def-requires-clause-to : goal.lift_by_def-requires-clause-to
+lift_by_def-requires-clause-to c = omega (arith, c.len.ensures, length-env_of c.args.bank.now c.args.env.now, ap length c.requires.env)
+
+pub push-requires : goal.push-requires
+push-requires c = record { room = c.requires.room }
+
+pub entry-requires-clause-sound : goal.entry-requires-clause-sound
+entry-requires-clause-sound c = c.lift_by_def.ensures.sound
+
+pub returns-clause-sound : goal.returns-clause-sound
+returns-clause-sound c = c.entry.ensures.sound
+
+pub returns-clause-added : goal.returns-clause-added
+returns-clause-added c =
+    ap (λ (q : Known). q.env) c.in_ok-entry.ensures.known
+    ∙ ap₂ (λ (e : Env) (s : Judgement). e ++ line_entry c.args.names.1 s ∷ []) c.lift_by_def.ensures.adds.env c.in_ok-over.ensures.number.is
+
+pub returns-clause-one : goal.returns-clause-one
+returns-clause-one c = omega (arith, ap length c.in_ok-push.ensures.ok, length_push c.args.env.now (named c.args.names.0 c.args.entry))
