@@ -1,6 +1,6 @@
-use Rattle.std.proofs.Common.{sym, subst, IfOk}
+use Rattle.std.proofs.Common.{subst, IfOk}
 use Rattle.ld_terms.specs.Tree.{Pi, Const, Nil}
-use Rattle.ld_terms.specs.Item.{Item, One, tree, IsOne}
+use Rattle.ld_terms.specs.Item.{Item, One, tree}
 use Rattle.ld_terms.specs.Bank.{Holds, IsTermAt}
 use Rattle.ld_record.proofs.CallerLemmas.{term_there}
 use Rattle.ld_record.proofs.sample.product.Goals as goal
