@@ -4,6 +4,7 @@ pub mod Theories
 pub mod Going
 pub mod Pairs
 pub mod Weakening
+pub mod Leading
 pub mod Concluding
 pub mod Stopping
 pub mod Staying

@@ -1,4 +1,4 @@
-//! Two variables, `A : *` and `x : A`, and what a theory tells of them; the types of closed terms; instances of a primitive
+//! Two variables, `A : *` and `x : A`, and what a theory tells of them; terms to be read, among them instances of a primitive
 //! that has the two as its parameters.
 ghost use Rattle.std.specs.Prelude.{◌≡◌, ◌<◌, [], length, IfOk, OnOk, IfSome};
 ghost use Rattle.ld_terms.specs.Tree.{Star, Var, Nil, ◌▸◌, count};
@@ -7,7 +7,9 @@ ghost use Rattle.ld_terms.specs.Record.{params_at};
 ghost use Rattle.ld_infer.specs.Standing.{known, env, Continues};
 ghost use Rattle.ld_infer.specs.Infers.{IsReadable};
 
-use crate::{InferFault, Job, PathStep, RuleName, Theory, Why, infer};
+mod reading;
+
+use crate::Theory;
 use ld_record::JudgeId;
 use ld_terms::{Node, TermFault, TermId};
 use std::alloc::Global;
@@ -43,16 +45,7 @@ fn enter_element(theory: &mut Theory) -> Result<(), TermFault>
     Ok(())
 }
 
-// The judgement of a variable, and of its type: the context's number, the term and the type of each.
-fn told(theory: &mut Theory, i: u32) -> Result<[(usize, Node, Node); 2], TermFault>
-    requires there { i < count theory.old.context }
-    requires small { IsSmall (One (Var i)) }
-    ensures { OnOk result (theory.new.context ≡ theory.old.context) }
-{
-    let typed = theory.variable(i)?;
-    Ok([parts(theory, typed.judge), parts(theory, typed.sort)])
-}
-
+// A judgement: the context's number, the term and the type.
 fn parts(theory: &Theory, j: JudgeId) -> (usize, Node, Node)
     requires { j.0 < length (known theory.now).nodes }
 {
@@ -65,22 +58,64 @@ fn parts(theory: &Theory, j: JudgeId) -> (usize, Node, Node)
     )
 }
 
+// Enters both, and tells how many variables there are.
+fn enter_both(theory: &mut Theory) -> Result<u32, TermFault>
+    requires { theory.old.context ≡ Nil }
+    ensures context { OnOk result (theory.new.context ≡ Nil ▸ Star ▸ Var 0) }
+    ensures env { OnOk result (env theory.new ≡ env theory.old) }
+{
+    enter_type(theory)?;
+    enter_element(theory)?;
+    Ok(theory.depth())
+}
+
+// Whether two nodes are the same.
+fn are_same(left: Node, right: Node) -> bool {
+    left == right
+}
+
+// Whether this is what is told of a judgement: the context's number, the term and the type.
+fn is_told(told: (usize, Node, Node), term: Node, of: Node) -> bool {
+    told.0 == 2 && are_same(told.1, term) && are_same(told.2, of)
+}
+
+// Whether this type is told of a variable, and this sort of the type.
+fn has_type(theory: &mut Theory, i: u32, of: Node, sort: Node) -> Result<bool, TermFault>
+    requires there { i < count theory.old.context }
+    requires small { IsSmall (One (Var i)) }
+    ensures { OnOk result (theory.new.context ≡ theory.old.context) }
+{
+    let typed = theory.variable(i)?;
+    let is_judged = is_told(parts(theory, typed.judge), Node::Var(i), of);
+    Ok(is_judged && is_told(parts(theory, typed.sort), of, sort))
+}
+
+// Enters the two, and takes the last away: whether each has its type, and how many there are before that and afterwards.
+fn both_typed(theory: &mut Theory) -> Result<(bool, bool, u32, u32), TermFault>
+    requires { theory.old.context ≡ Nil }
+{
+    let before = enter_both(theory)?;
+    // x : A, where A is the variable before it, and A : *
+    let element = has_type(theory, 0, Node::Var(1), Node::Star)?;
+    // A : *, and * : box
+    let of = has_type(theory, 1, Node::Star, Node::Box_)?;
+    theory.leave();
+    Ok((element, of, before, theory.depth()))
+}
+
+// The same in a new theory.
+fn new_typed(alloc: Global) -> Result<(bool, bool, u32, u32), TermFault> {
+    match Theory::new(alloc) {
+        Ok(mut theory) => both_typed(&mut theory),
+        Err(_) => Err(TermFault::Memory),
+    }
+}
+
 #[test]
 fn types_two_variables(rt: HostRuntime) -> Result<(), Fail> {
-    let mut theory = Theory::new(rt.alloc())?;
-    enter_type(&mut theory)?;
-    enter_element(&mut theory)?;
-    assert_eq!(rt; theory.depth(), 2);
-    // x : A, where A is the variable before it, and A : *
-    let [judged, sorted] = told(&mut theory, 0)?;
-    assert_eq!(rt; judged, (2, Node::Var(0), Node::Var(1)));
-    assert_eq!(rt; sorted, (2, Node::Var(1), Node::Star));
-    // A : *, and * : box
-    let [judged, sorted] = told(&mut theory, 1)?;
-    assert_eq!(rt; judged, (2, Node::Var(1), Node::Star));
-    assert_eq!(rt; sorted, (2, Node::Star, Node::Box_));
-    theory.leave();
-    assert_eq!(rt; theory.depth(), 1);
+    let (element, of, before, after) = new_typed(rt.alloc())?;
+    assert!(rt; element && of);
+    assert!(rt; before == 2 && after == 1);
     Ok(())
 }
 
@@ -122,78 +157,6 @@ fn constant(theory: &mut Theory) -> Result<TermId, TermFault>
     Ok(term)
 }
 
-#[test]
-fn types_the_identity(rt: HostRuntime) -> Result<(), Fail> {
-    let mut theory = Theory::new(rt.alloc())?;
-    let mut job = Job::new(rt.alloc(), 10);
-    let term = identity(&mut theory)?;
-    let typed = infer(
-        rt.alloc(),
-        &mut theory,
-        (RuleName::Def, 2),
-        term,
-        1,
-        &mut job,
-    )?;
-    // Π A : *. Π x : A. A
-    let bank = theory.bank();
-    let Node::Pi(domain, range) = bank.node(typed.of) else {
-        return Err(Fail::from("no product"));
-    };
-    assert_eq!(rt; bank.node(domain), Node::Star);
-    let Node::Pi(domain, range) = bank.node(range) else {
-        return Err(Fail::from("no product under the first"));
-    };
-    assert_eq!(rt; bank.node(domain), Node::Var(0));
-    assert_eq!(rt; bank.node(range), Node::Var(1));
-    assert!(rt; typed.of_judge.is_some());
-    assert_eq!(rt; job.budget.spent(), 0);
-    Ok(())
-}
-
-#[test]
-fn types_an_application(rt: HostRuntime) -> Result<(), Fail> {
-    let mut theory = Theory::new(rt.alloc())?;
-    let mut job = Job::new(rt.alloc(), 10);
-    let term = chosen(&mut theory)?;
-    let typed = infer(
-        rt.alloc(),
-        &mut theory,
-        (RuleName::Def, 2),
-        term,
-        1,
-        &mut job,
-    )?;
-    assert_eq!(rt; theory.bank().node(typed.of), Node::Star);
-    assert!(rt; typed.of_judge.is_none());
-    assert_eq!(rt; job.budget.spent(), 0);
-    Ok(())
-}
-
-#[test]
-fn refuses_a_body_of_type_box(rt: HostRuntime) -> Result<(), Fail> {
-    let mut theory = Theory::new(rt.alloc())?;
-    let mut job = Job::new(rt.alloc(), 10);
-    let term = constant(&mut theory)?;
-    let result = infer(
-        rt.alloc(),
-        &mut theory,
-        (RuleName::Def, 2),
-        term,
-        1,
-        &mut job,
-    );
-    let Err(InferFault::Refused(failure)) = result else {
-        return Err(Fail::from("no refusal"));
-    };
-    assert!(rt; failure.rule == RuleName::Abst);
-    assert_eq!(rt; failure.premise, 2);
-    assert_eq!(rt; failure.depth, 0);
-    assert_eq!(rt; failure.path.len(), 0);
-    assert!(rt; failure.why == Why::BoxBody);
-    Ok(())
-}
-
 // Enters `A : *` and `x : A`, and keeps a primitive of the type `A` under them.
 fn keep_primitive(alloc: Global, theory: &mut Theory) -> Result<u32, TermFault>
     requires context { theory.old.context ≡ Nil }
@@ -202,8 +165,7 @@ fn keep_primitive(alloc: Global, theory: &mut Theory) -> Result<u32, TermFault>
     ensures params { IfOk result (λ k. params_at (env theory.new) k ≡ 2) }
     ensures context { OnOk result (theory.new.context ≡ Nil ▸ Star ▸ Var 0) }
 {
-    enter_type(theory)?;
-    enter_element(theory)?;
+    enter_both(theory)?;
     let of = theory.add(Node::Var(1))?;
     let typed = theory.variable(1)?;
     match theory.keep_primitive(alloc, b"chosen", of, typed.judge) {
@@ -243,82 +205,14 @@ fn instance_with(theory: &mut Theory, k: u32, argument: Option<u32>) -> Result<T
     Ok(term)
 }
 
-// The type of `x` is the second parameter's, with `A` put in.
-#[test]
-fn types_an_instance(rt: HostRuntime) -> Result<(), Fail> {
-    let mut theory = Theory::new(rt.alloc())?;
-    let mut job = Job::new(rt.alloc(), 10);
-    let k = keep_primitive(rt.alloc(), &mut theory)?;
-    let term = instance_with(&mut theory, k, Some(0))?;
-    let typed = infer(
-        rt.alloc(),
-        &mut theory,
-        (RuleName::Def, 2),
-        term,
-        1,
-        &mut job,
-    )?;
-    let (ctx, judged, of) = parts(&theory, typed.judge);
-    assert_eq!(rt; ctx, 2);
-    assert_eq!(rt; judged, theory.bank().node(term));
-    assert_eq!(rt; of, Node::Var(1));
-    assert_eq!(rt; theory.bank().node(typed.of), Node::Var(1));
-    assert!(rt; typed.of_judge.is_none());
-    assert_eq!(rt; job.budget.spent(), 0);
-    Ok(())
-}
-
-// The type of `A` isn't the second parameter's.
-#[test]
-fn compares_an_argument(rt: HostRuntime) -> Result<(), Fail> {
-    let mut theory = Theory::new(rt.alloc())?;
-    let mut job = Job::new(rt.alloc(), 10);
-    let k = keep_primitive(rt.alloc(), &mut theory)?;
-    let term = instance_with(&mut theory, k, Some(1))?;
-    let result = infer(
-        rt.alloc(),
-        &mut theory,
-        (RuleName::Def, 2),
-        term,
-        1,
-        &mut job,
-    );
-    let Err(InferFault::Refused(failure)) = result else {
-        return Err(Fail::from("no refusal"));
-    };
-    assert!(rt; failure.rule == RuleName::InstPrim);
-    assert_eq!(rt; failure.premise, 2);
-    assert_eq!(rt; failure.depth, 2);
-    assert!(rt; failure.path.len() == 1 && failure.path.step(0) == PathStep::Nth(2));
-    let Why::NotSame { under, .. } = failure.why else {
-        return Err(Fail::from("no comparison"));
-    };
-    assert_eq!(rt; under, 0);
-    assert_eq!(rt; job.budget.spent(), 0);
-    Ok(())
-}
-
-#[test]
-fn refuses_an_argument_that_is_box(rt: HostRuntime) -> Result<(), Fail> {
-    let mut theory = Theory::new(rt.alloc())?;
-    let mut job = Job::new(rt.alloc(), 10);
-    let k = keep_primitive(rt.alloc(), &mut theory)?;
-    let term = instance_with(&mut theory, k, None)?;
-    let result = infer(
-        rt.alloc(),
-        &mut theory,
-        (RuleName::Def, 2),
-        term,
-        1,
-        &mut job,
-    );
-    let Err(InferFault::Refused(failure)) = result else {
-        return Err(Fail::from("no refusal"));
-    };
-    assert!(rt; failure.rule == RuleName::InstPrim);
-    assert_eq!(rt; failure.premise, 2);
-    assert_eq!(rt; failure.depth, 2);
-    assert!(rt; failure.path.len() == 1 && failure.path.step(0) == PathStep::Nth(2));
-    assert!(rt; failure.why == Why::NoType);
-    Ok(())
+// The same in an empty theory, in which the primitive is kept first.
+fn instance(alloc: Global, theory: &mut Theory, argument: Option<u32>) -> Result<TermId, TermFault>
+    requires context { theory.old.context ≡ Nil }
+    requires none { env theory.old ≡ [] }
+    requires below { IfSome argument (λ i. i < 2) }
+    ensures readable { IfOk result (λ t. IsReadable theory.new t) }
+    ensures two { OnOk result (count theory.new.context ≡ 2) }
+{
+    let k = keep_primitive(alloc, theory)?;
+    instance_with(theory, k, argument)
 }

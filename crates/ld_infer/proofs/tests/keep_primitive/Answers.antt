@@ -16,5 +16,5 @@ keep_primitive-requires-clause-judge c =
     let typed = c.in_ok-typed.ensures.typed in
     let added = c.variable.ensures.continues in
     let type : Star ≡ tree_at c.variable.new.self.items c.in_ok-typed.typed.of =
-    some_once (ap (λ (ctx : Trees). type_in ctx 1) (sym (c.add.ensures.continues.context ∙ c.in_ok-enter_element.ensures.context)) ∙ typed.type) in
+    some_once (ap (λ (ctx : Trees). type_in ctx 1) (sym (c.add.ensures.continues.context ∙ c.in_ok-enter_both.ensures.context)) ∙ typed.type) in
     sort_known _ _ _ _ _ _ added (subst IsSort type star) typed.judged (sym (ap tree (added.items.kept _ holds.live ∙ holds.item)))
