@@ -291,6 +291,17 @@ impl Checker {
     {
         let entry = entry_of(alloc, &self.bank, judged, prim)?;
         let name = Text::from_bytes(alloc, name)?;
+        self.add_named(name, entry)
+    }
+
+    // Adds an entry and its note, or neither.
+    fn add_named(&mut self, name: Text, entry: Entry) -> Result<(), NoMemory>
+        requires live { IsLiveEntry self.old.items entry }
+        requires room { length self.old.state.known.env + 1 < 2 ^ 32 }
+        ensures ok { OnOk result (self.new.state
+            ≡ record self.old.state { known = with_entry self.old.state.known (entry_of self.old.items (named name entry)) }) }
+        ensures err { OnErr result (self.new.state ≡ self.old.state) }
+    {
         let number = self.env.push(name, entry).map_err(|_| NoMemory)?;
         if self.notes.push(Noted::Entry(number)).is_err() {
             self.env.pop();
