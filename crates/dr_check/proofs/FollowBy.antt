@@ -137,28 +137,34 @@ module _ (known : Known) where
   entry_once : (k l : ℕ) (d e : Entry) → k ≡ l → EntryAt known.env k d → EntryAt known.env l e → d ≡ e
   entry_once k l d e is p q = let r : EntryAt known.env l d = subst (λ x. EntryAt known.env x d) is p in cc (r, q)
 
-  inst_is : (m n k : ℕ) (ns : List ℕ) (G us : Trees) (t u : Tree) (e : Entry) → Const k us ≡ t → EntryAt known.env k e → FollowsBy known m G t u (Rule.Inst n ns) → u ≡ put e.type us
-  inst_is m n k ns G us t u e is at (FollowsBy.inst {k = l} {us = vs} {e = d} j low at' w args) =
+  -- what an instance of an entry comes to, whatever the entry's body
+  abbrev pub InstanceParts : (m n k : ℕ) (ns : List ℕ) (G us : Trees) (u : Tree) (params : Trees) (type : Tree) → Type 0
+  InstanceParts m n k ns G us u params type = (k < m) × Judges known n m G Star Box × JudgeArguments known ns m G params us × (u ≡ put type us)
+
+  instance_is : (m n k l : ℕ) (ns : List ℕ) (G us vs : Trees) (d e : Entry) → Const l vs ≡ Const k us → EntryAt known.env k e → EntryAt known.env l d →
+      l < m → Judges known n m G Star Box → JudgeArguments known ns m G d.params vs → InstanceParts m n k ns G us (put d.type vs) e.params e.type
+  instance_is m n k l ns G us vs d e is at at' low j args =
       let p : l ≡ k = cc in
       let q : vs ≡ us = cc in
-      ap (λ x. put x.type vs) (entry_once l k d e p at' at) ∙ ap (put e.type) q
+      let r : d ≡ e = entry_once l k d e p at' at in
+      (subst (λ x. x < m) p low, j, subst₂ (λ x y. JudgeArguments known ns m G x y) (ap (λ x. x.params) r) q args, ap (λ x. put x.type vs) r ∙ ap (put e.type) q)
 
-  pub inst_rule : {x : Bool} (m n k : ℕ) (ns : List ℕ) (G us : Trees) (t u body : Tree) (e : Entry) → Const k us ≡ t → EntryAt known.env k e → e.body ≡ Defined body → k < m → Judges known n m G Star Box → JudgeArguments known ns m G e.params us →
-      (IsTrue x ↔ (u ≡ put e.type us)) → (IsTrue x ↔ FollowsBy known m G t u (Rule.Inst n ns))
-  inst_rule m n k ns G us t u body e is at w low j args h =
+  inst_is : (m n k : ℕ) (ns : List ℕ) (G us : Trees) (t u : Tree) (e : Entry) → Const k us ≡ t → EntryAt known.env k e → FollowsBy known m G t u (Rule.Inst n ns) → InstanceParts m n k ns G us u e.params e.type
+  inst_is m n k ns G us t u e is at (FollowsBy.inst {k = l} {us = vs} {e = d} j low at' w args) = instance_is m n k l ns G us vs d e (sym is) at at' low j args
+
+  pub inst_rule : {x : Bool} (m n k : ℕ) (ns : List ℕ) (G us : Trees) (t u body : Tree) (e : Entry) → Const k us ≡ t → EntryAt known.env k e → e.body ≡ Defined body →
+      (IsTrue x ↔ InstanceParts m n k ns G us u e.params e.type) → (IsTrue x ↔ FollowsBy known m G t u (Rule.Inst n ns))
+  inst_rule m n k ns G us t u body e is at w h =
       through h
-      (λ g. subst₂ (λ x y. FollowsBy known m G x y (Rule.Inst n ns)) is (sym g) (FollowsBy.inst j low at (has_body e.body body w) args))
+      (λ g. subst₂ (λ x y. FollowsBy known m G x y (Rule.Inst n ns)) is (sym g.3) (FollowsBy.inst g.1 g.0 at (has_body e.body body w) g.2))
       (inst_is m n k ns G us t u e is at)
 
-  inst_prim_is : (m n k : ℕ) (ns : List ℕ) (G us : Trees) (t u : Tree) (e : Entry) → Const k us ≡ t → EntryAt known.env k e → FollowsBy known m G t u (Rule.InstPrim n ns) → u ≡ put e.type us
-  inst_prim_is m n k ns G us t u e is at (FollowsBy.inst_prim {k = l} {us = vs} {e = d} j low at' w args) =
-      let p : l ≡ k = cc in
-      let q : vs ≡ us = cc in
-      ap (λ x. put x.type vs) (entry_once l k d e p at' at) ∙ ap (put e.type) q
+  inst_prim_is : (m n k : ℕ) (ns : List ℕ) (G us : Trees) (t u : Tree) (e : Entry) → Const k us ≡ t → EntryAt known.env k e → FollowsBy known m G t u (Rule.InstPrim n ns) → InstanceParts m n k ns G us u e.params e.type
+  inst_prim_is m n k ns G us t u e is at (FollowsBy.inst_prim {k = l} {us = vs} {e = d} j low at' w args) = instance_is m n k l ns G us vs d e (sym is) at at' low j args
 
-  pub inst_prim_rule : {x : Bool} (m n k : ℕ) (ns : List ℕ) (G us : Trees) (t u : Tree) (e : Entry) → Const k us ≡ t → EntryAt known.env k e → e.body ≡ Primitive → k < m → Judges known n m G Star Box → JudgeArguments known ns m G e.params us →
-      (IsTrue x ↔ (u ≡ put e.type us)) → (IsTrue x ↔ FollowsBy known m G t u (Rule.InstPrim n ns))
-  inst_prim_rule m n k ns G us t u e is at w low j args h =
+  pub inst_prim_rule : {x : Bool} (m n k : ℕ) (ns : List ℕ) (G us : Trees) (t u : Tree) (e : Entry) → Const k us ≡ t → EntryAt known.env k e → e.body ≡ Primitive →
+      (IsTrue x ↔ InstanceParts m n k ns G us u e.params e.type) → (IsTrue x ↔ FollowsBy known m G t u (Rule.InstPrim n ns))
+  inst_prim_rule m n k ns G us t u e is at w h =
       through h
-      (λ g. subst₂ (λ x y. FollowsBy known m G x y (Rule.InstPrim n ns)) is (sym g) (FollowsBy.inst_prim j low at w args))
+      (λ g. subst₂ (λ x y. FollowsBy known m G x y (Rule.InstPrim n ns)) is (sym g.3) (FollowsBy.inst_prim g.1 g.0 at w g.2))
       (inst_prim_is m n k ns G us t u e is at)

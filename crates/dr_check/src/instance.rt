@@ -1,16 +1,19 @@
 //! Whether an instance of an entry has a type by the rule of a record.
-ghost use Rattle.std.specs.Prelude.{◌↔◌, IsTrue, All};
+ghost use Rattle.std.specs.Prelude.{◌≡◌, ◌↔◌, ◌<◌, IsTrue, All};
 ghost use Rattle.std.specs.List.{AllByRecursion};
-ghost use Rattle.ld_terms.specs.Tree.{Nil};
+ghost use Rattle.ld_terms.specs.Tree.{Star, Box, Nil};
+ghost use Rattle.ld_terms.specs.Put.{put};
 ghost use Rattle.ld_terms.specs.Bank.{tree_at, list_at, listed, IsTermAt, IsListAt};
 ghost use Rattle.ld_terms.specs.Rule.{Rule};
-ghost use Rattle.ld_terms.specs.Known.{FollowsBy, JudgeArguments, IsNode};
+ghost use Rattle.ld_terms.specs.Known.{FollowsBy, Judges, JudgeArguments, IsNode};
+ghost use Rattle.ld_env.specs.Entries.{IsLiveEntry};
 ghost use Rattle.dr_check.specs.Entered.{IsArgument};
 
 use crate::checker::Checker;
 use crate::compare::{is_empty, is_instance, same_lists, same_terms};
 use crate::known::{entry_at, judges_star};
 use crate::shape::Filling;
+use ld_env::Entry;
 use ld_terms::{Node, TermId};
 
 /// Whether an instance of an entry with a body follows from its nodes: one over the context, and one for each argument.
@@ -37,12 +40,7 @@ pub(crate) fn by_inst(
         return false;
     };
     match entry.body {
-        Some(_) => {
-            k < m
-                && judges_star(checker, n, m, ctx)
-                && judge_arguments(checker, ns, m, ctx, entry.params.as_slice(), us)
-                && is_instance(checker.bank(), u, entry.of, Filling::List(us))
-        }
+        Some(_) => judges_instance(checker, m, ctx, k, us, u, entry, n, ns),
         None => false,
     }
 }
@@ -72,13 +70,36 @@ pub(crate) fn by_inst_prim(
     };
     match entry.body {
         Some(_) => false,
-        None => {
-            k < m
-                && judges_star(checker, n, m, ctx)
-                && judge_arguments(checker, ns, m, ctx, entry.params.as_slice(), us)
-                && is_instance(checker.bank(), u, entry.of, Filling::List(us))
-        }
+        None => judges_instance(checker, m, ctx, k, us, u, entry, n, ns),
     }
+}
+
+// Whether the nodes judge the instance of an entry, one over the context and one for each argument, and this is its type.
+fn judges_instance(
+    checker: &Checker,
+    m: u32,
+    ctx: TermId,
+    k: u32,
+    us: TermId,
+    u: TermId,
+    entry: &Entry,
+    n: usize,
+    ns: &[usize],
+) -> bool
+    requires ctx { IsListAt checker.now.items ctx }
+    requires arguments { IsListAt checker.now.items us }
+    requires type_ { IsTermAt checker.now.items u }
+    requires entry { IsLiveEntry checker.now.items entry.now }
+    requires there { IsNode checker.now.state.known n }
+    requires nodes { AllByRecursion (IsNode checker.now.state.known) ns.now }
+    ensures { IsTrue result ↔ ((k < m) × Judges checker.now.state.known n m (list_at checker.now.items ctx) Star Box
+        × JudgeArguments checker.now.state.known ns.now m (list_at checker.now.items ctx) (listed checker.now.items Nil entry.now.params) (list_at checker.now.items us)
+        × (tree_at checker.now.items u ≡ put (tree_at checker.now.items entry.now.of) (list_at checker.now.items us))) }
+{
+    k < m
+        && judges_star(checker, n, m, ctx)
+        && judge_arguments(checker, ns, m, ctx, entry.params.as_slice(), us)
+        && is_instance(checker.bank(), u, entry.of, Filling::List(us))
 }
 
 // Whether the nodes give each argument its parameter's type, from the last to the first.
