@@ -1,7 +1,8 @@
 //! Derivation files, byte by byte.
 use crate::check_file;
 use dr_text::reader::RecordFault;
-use std::alloc::Global;
+use ld_env::Env;
+use std::alloc::{AllocError, Global};
 use std::process::Abort;
 use std::test::Fail;
 
@@ -18,15 +19,30 @@ fn answer(rt: &impl Abort, alloc: Global, bytes: &[u8]) -> Result<u32, RecordFau
     }
 }
 
+// The file has so many entries, or this fault.
+fn expect(rt: &impl Abort, alloc: Global, bytes: &[u8], wanted: Result<u32, RecordFault>) {
+    assert_eq!(rt; answer(rt, alloc, bytes), wanted);
+}
+
+// Whether there is one entry, `A`.
+fn has_primitive(env: &Env) -> bool {
+    env.len() == 1 && env.name(0) == b"A".as_slice()
+}
+
+// Whether there are two entries, and the second is `id`, a line without parameters.
+fn has_line(env: &Env) -> bool {
+    env.len() == 2
+        && env.name(1) == b"id".as_slice()
+        && env.entry(1).body.is_some()
+        && env.entry(1).params.as_slice().is_empty()
+}
+
 #[test]
 fn takes_no_entries(rt: HostRuntime) -> Result<(), Fail> {
     let empty = b"LDDERIV1\x01\x02\x30\x00\x00\x00\x01\x60\x00";
-    assert_eq!(rt; answer(&rt, rt.alloc(), empty), Ok(0));
+    expect(&rt, rt.alloc(), empty, Ok(0));
     let longer = b"LDDERIV1\x01\x02\x30\x00\x00\x00\x01\x60\x00\x00";
-    assert_eq!(rt;
-        answer(&rt, rt.alloc(), longer),
-        Err(RecordFault::Malformed(17))
-    );
+    expect(&rt, rt.alloc(), longer, Err(RecordFault::Malformed(17)));
     Ok(())
 }
 
@@ -34,20 +50,31 @@ fn takes_no_entries(rt: HostRuntime) -> Result<(), Fail> {
 fn takes_a_primitive(rt: HostRuntime) -> Result<(), Fail> {
     assert!(rt; PRIMITIVE.len() == 27);
     let checked = check_file(rt.alloc(), PRIMITIVE)?;
-    assert!(rt; checked.env.len() == 1);
-    assert_eq!(rt; checked.env.name(0), b"A".as_slice());
+    assert!(rt; has_primitive(&checked.env));
     Ok(())
 }
 
 #[test]
 fn refuses_a_front(rt: HostRuntime) -> Result<(), Fail> {
     assert!(rt; PRIMITIVE.len() == 27);
-    let whole = answer(&rt, rt.alloc(), &PRIMITIVE[..25]);
-    assert_eq!(rt; whole, Err(RecordFault::Unfinished));
-    let cut = answer(&rt, rt.alloc(), &PRIMITIVE[..24]);
-    assert_eq!(rt; cut, Err(RecordFault::Malformed(19)));
-    let headless = answer(&rt, rt.alloc(), &PRIMITIVE[..7]);
-    assert_eq!(rt; headless, Err(RecordFault::Malformed(0)));
+    expect(
+        &rt,
+        rt.alloc(),
+        &PRIMITIVE[..25],
+        Err(RecordFault::Unfinished),
+    );
+    expect(
+        &rt,
+        rt.alloc(),
+        &PRIMITIVE[..24],
+        Err(RecordFault::Malformed(19)),
+    );
+    expect(
+        &rt,
+        rt.alloc(),
+        &PRIMITIVE[..7],
+        Err(RecordFault::Malformed(0)),
+    );
     Ok(())
 }
 
@@ -56,20 +83,14 @@ fn refuses_a_premise(rt: HostRuntime) -> Result<(), Fail> {
     // node 1 rests on itself
     let absent =
         b"LDDERIV1\x01\x02\x30\x00\x00\x00\x01\x41\x01A\x00\x38\x01\x00\x00\x01\x01\x60\x01";
-    assert_eq!(rt;
-        answer(&rt, rt.alloc(), absent),
-        Err(RecordFault::BadRef(4))
-    );
+    expect(&rt, rt.alloc(), absent, Err(RecordFault::BadRef(4)));
     // it has another type than its premise
     let other =
         b"LDDERIV1\x01\x02\x30\x00\x00\x00\x01\x41\x01A\x00\x38\x01\x00\x00\x00\x00\x60\x01";
-    assert_eq!(rt;
-        answer(&rt, rt.alloc(), other),
-        Err(RecordFault::BadStep(4))
-    );
+    expect(&rt, rt.alloc(), other, Err(RecordFault::BadStep(4)));
     // it is over more entries than there are
     let over = b"LDDERIV1\x01\x02\x30\x00\x00\x00\x01\x41\x01A\x00\x38\x02\x00\x00\x01\x00\x60\x01";
-    assert_eq!(rt; answer(&rt, rt.alloc(), over), Err(RecordFault::BadRef(4)));
+    expect(&rt, rt.alloc(), over, Err(RecordFault::BadRef(4)));
     Ok(())
 }
 
@@ -78,16 +99,10 @@ fn refuses_an_end(rt: HostRuntime) -> Result<(), Fail> {
     // the number isn't spelled in the least bytes
     let longer =
         b"LDDERIV1\x01\x02\x30\x00\x00\x00\x01\x41\x01A\x00\x38\x01\x00\x00\x01\x00\x60\x81\x00";
-    assert_eq!(rt;
-        answer(&rt, rt.alloc(), longer),
-        Err(RecordFault::Malformed(25))
-    );
+    expect(&rt, rt.alloc(), longer, Err(RecordFault::Malformed(25)));
     // the node isn't over all entries
     let early = b"LDDERIV1\x01\x02\x30\x00\x00\x00\x01\x41\x01A\x00\x60\x00";
-    assert_eq!(rt;
-        answer(&rt, rt.alloc(), early),
-        Err(RecordFault::BadStep(4))
-    );
+    expect(&rt, rt.alloc(), early, Err(RecordFault::BadStep(4)));
     Ok(())
 }
 
@@ -95,20 +110,14 @@ fn refuses_an_end(rt: HostRuntime) -> Result<(), Fail> {
 fn refuses_entries(rt: HostRuntime) -> Result<(), Fail> {
     // no name
     let nameless = b"LDDERIV1\x01\x02\x30\x00\x00\x00\x01\x41\x00\x00";
-    assert_eq!(rt;
-        answer(&rt, rt.alloc(), nameless),
-        Err(RecordFault::BadStep(3))
-    );
+    expect(&rt, rt.alloc(), nameless, Err(RecordFault::BadStep(3)));
     // a name that is taken
     let taken =
         b"LDDERIV1\x01\x02\x30\x00\x00\x00\x01\x41\x01A\x00\x38\x01\x00\x00\x01\x00\x40\x01A\x01";
-    assert_eq!(rt;
-        answer(&rt, rt.alloc(), taken),
-        Err(RecordFault::BadStep(5))
-    );
+    expect(&rt, rt.alloc(), taken, Err(RecordFault::BadStep(5)));
     // a node over fewer entries than there are
     let over = b"LDDERIV1\x01\x02\x30\x00\x00\x00\x01\x41\x01A\x00\x41\x01B\x00";
-    assert_eq!(rt; answer(&rt, rt.alloc(), over), Err(RecordFault::BadStep(4)));
+    expect(&rt, rt.alloc(), over, Err(RecordFault::BadStep(4)));
     Ok(())
 }
 
@@ -116,37 +125,24 @@ fn refuses_entries(rt: HostRuntime) -> Result<(), Fail> {
 fn refuses_terms(rt: HostRuntime) -> Result<(), Fail> {
     // an instance of no entry
     let absent = b"LDDERIV1\x07\x05\x00";
-    assert_eq!(rt;
-        answer(&rt, rt.alloc(), absent),
-        Err(RecordFault::BadRef(0))
-    );
+    expect(&rt, rt.alloc(), absent, Err(RecordFault::BadRef(0)));
     // the index 65,536, and one of more than 32 bits
     let high = b"LDDERIV1\x03\x80\x80\x04";
-    assert_eq!(rt; answer(&rt, rt.alloc(), high), Err(RecordFault::BadStep(0)));
+    expect(&rt, rt.alloc(), high, Err(RecordFault::BadStep(0)));
     let higher = b"LDDERIV1\x03\x80\x80\x80\x80\x10";
-    assert_eq!(rt;
-        answer(&rt, rt.alloc(), higher),
-        Err(RecordFault::BadStep(0))
-    );
+    expect(&rt, rt.alloc(), higher, Err(RecordFault::BadStep(0)));
     // the index 65,535
     let greatest = b"LDDERIV1\x03\xff\xff\x03";
-    assert_eq!(rt;
-        answer(&rt, rt.alloc(), greatest),
-        Err(RecordFault::Unfinished)
-    );
+    expect(&rt, rt.alloc(), greatest, Err(RecordFault::Unfinished));
     // more arguments than there are bytes
     let many = b"LDDERIV1\x07\x00\xff\xff\xff\xff\xff\xff\xff\xff\xff\x01\x00";
-    assert_eq!(rt;
-        answer(&rt, rt.alloc(), many),
-        Err(RecordFault::Malformed(8))
-    );
+    expect(&rt, rt.alloc(), many, Err(RecordFault::Malformed(8)));
     Ok(())
 }
 
 // A primitive `A : *`, the line `id := \ x : A . x`, which unfolds and is applied, and a flag.
-#[test]
-fn takes_a_line(rt: HostRuntime) -> Result<(), Fail> {
-    let mut bytes = b"LDDERIV1".to_vec(rt.alloc())?;
+fn line_file(alloc: Global) -> Result<Vec<u8>, AllocError> {
+    let mut bytes = b"LDDERIV1".to_vec(alloc)?;
     for record in [
         // `*`, `box` and node 0; the entry `A`, over it node 1
         b"\x01\x02\x30\x00\x00\x00\x01\x41\x01A\x00\x38\x01\x00\x00\x01\x00".as_slice(),
@@ -167,11 +163,14 @@ fn takes_a_line(rt: HostRuntime) -> Result<(), Fail> {
     ] {
         bytes.extend_from_slice(record)?;
     }
+    Ok(bytes)
+}
+
+#[test]
+fn takes_a_line(rt: HostRuntime) -> Result<(), Fail> {
+    let bytes = line_file(rt.alloc())?;
     assert!(rt; bytes.len() <= 4096);
     let checked = check_file(rt.alloc(), &bytes)?;
-    assert!(rt; checked.env.len() == 2);
-    assert_eq!(rt; checked.env.name(1), b"id".as_slice());
-    assert!(rt; checked.env.entry(1).body.is_some());
-    assert_eq!(rt; checked.env.entry(1).params.as_slice().len(), 0);
+    assert!(rt; has_line(&checked.env));
     Ok(())
 }
