@@ -42,24 +42,33 @@ fn two_applied_instances(bank: &mut Bank) -> Result<(TermId, TermId), TermFault>
     Ok((first, second))
 }
 
+// The first two parts of two terms, and how many there are.
+fn two_parts(
+    alloc: Global,
+    bank: &Bank,
+    ends: (TermId, TermId),
+) -> Result<(Option<(Node, Node, u32)>, Option<(Node, Node, u32)>, usize), Fail>
+    requires first { IsTermAt bank.now ends.0 }
+    requires second { IsTermAt bank.now ends.1 }
+{
+    let mut parts = Vec::new(alloc);
+    if !gather(bank, ends.0, ends.1, &mut parts)? {
+        return Err(Fail::from("no parts"));
+    }
+    let first = part_at(bank, &parts, 0);
+    let second = part_at(bank, &parts, 1);
+    Ok((first, second, parts.len()))
+}
+
 // The argument of the instances, and then that to which they are applied.
 #[test]
 fn gathers_parts_from_the_left(rt: HostRuntime) -> Result<(), Fail> {
     let mut bank = Bank::new(rt.alloc());
     let ends = two_applied_instances(&mut bank)?;
-    let mut parts = Vec::new(rt.alloc());
-    if !gather(&bank, ends.0, ends.1, &mut parts)? {
-        return Err(Fail::from("no parts"));
-    }
-    assert_eq!(rt;
-        part_at(&bank, &parts, 0),
-        Some((Node::Var(3), Node::Var(5), 0))
-    );
-    assert_eq!(rt;
-        part_at(&bank, &parts, 1),
-        Some((Node::Var(4), Node::Var(6), 0))
-    );
-    assert_eq!(rt; parts.len(), 2);
+    let found = two_parts(rt.alloc(), &bank, ends)?;
+    let first = Some((Node::Var(3), Node::Var(5), 0));
+    let second = Some((Node::Var(4), Node::Var(6), 0));
+    assert_eq!(rt; found, (first, second, 2));
     Ok(())
 }
 
@@ -67,18 +76,12 @@ fn gathers_parts_from_the_left(rt: HostRuntime) -> Result<(), Fail> {
 fn gathers_bodies_under_a_binder(rt: HostRuntime) -> Result<(), Fail> {
     let mut bank = Bank::new(rt.alloc());
     let ends = two_under_binders(&mut bank)?;
-    let mut parts = Vec::new(rt.alloc());
-    if !gather(&bank, ends.0, ends.1, &mut parts)? {
-        return Err(Fail::from("no parts"));
-    }
-    assert_eq!(rt;
-        part_at(&bank, &parts, 0),
-        Some((Node::Star, Node::Star, 0))
-    );
-    let Some((Node::Pi(_, _), Node::Pi(_, _), under)) = part_at(&bank, &parts, 1) else {
+    let (first, second, count) = two_parts(rt.alloc(), &bank, ends)?;
+    let Some((Node::Pi(_, _), Node::Pi(_, _), under)) = second else {
         return Err(Fail::from("no bodies"));
     };
-    assert_eq!(rt; (under, parts.len()), (1, 2));
+    let stars = Some((Node::Star, Node::Star, 0));
+    assert_eq!(rt; (first, under, count), (stars, 1, 2));
     Ok(())
 }
 
@@ -140,23 +143,41 @@ fn keep(bank: &Bank, known: &mut Known, ends: (TermId, TermId), equal: EqId) -> 
     remember(bank, known, ends.0, ends.1, equal)
 }
 
+// How many pairs are known where the arguments are kept twice, what is found for them and for the first of them beside the
+// second whole, and how many are known with the wholes.
+fn keep_pairs(
+    bank: &Bank,
+    known: &mut Known,
+    arguments: (TermId, TermId),
+    wholes: (TermId, TermId),
+    equals: (EqId, EqId),
+) -> Result<(usize, Option<EqId>, Option<EqId>, usize), NoMemory>
+    requires pairs { All (HasTerms bank.now) known.old }
+    requires first { IsTermAt bank.now arguments.0 }
+    requires second { IsTermAt bank.now arguments.1 }
+    requires whole { IsTermAt bank.now wholes.1 }
+{
+    keep(bank, known, arguments, equals.0)?;
+    keep(bank, known, arguments, equals.1)?;
+    let once = known.as_slice().len();
+    let found = known.find(bank, arguments.0, arguments.1);
+    let none = known.find(bank, arguments.0, wholes.1);
+    known.add(Pair {
+        left: wholes.0,
+        right: wholes.1,
+        equal: equals.1,
+    })?;
+    Ok((once, found, none, known.as_slice().len()))
+}
+
 #[test]
 fn keeps_a_pair_once(rt: HostRuntime) -> Result<(), Fail> {
     let mut bank = Bank::new(rt.alloc());
     let mut deriv = Deriv::new(rt.alloc());
     let mut known = Known::new(rt.alloc());
     let (arguments, wholes) = twins(&mut bank)?;
-    let (equal, whole) = equalities(rt.alloc(), &bank, &mut deriv, arguments, wholes)?;
-    keep(&bank, &mut known, arguments, equal)?;
-    keep(&bank, &mut known, arguments, whole)?;
-    assert_eq!(rt; known.as_slice().len(), 1);
-    assert_eq!(rt; known.find(&bank, arguments.0, arguments.1), Some(equal));
-    assert_eq!(rt; known.find(&bank, arguments.0, wholes.1), None);
-    known.add(Pair {
-        left: wholes.0,
-        right: wholes.1,
-        equal: whole,
-    })?;
-    assert_eq!(rt; known.as_slice().len(), 2);
+    let equals = equalities(rt.alloc(), &bank, &mut deriv, arguments, wholes)?;
+    let kept = keep_pairs(&bank, &mut known, arguments, wholes, equals)?;
+    assert_eq!(rt; kept, (1, Some(equals.0), None, 2));
     Ok(())
 }

@@ -17,7 +17,7 @@ use crate::Job;
 use fb_base::{NoMemory, Text};
 use ld_env::{Entry, Env};
 use ld_record::{Deriv, Judge, JudgeId, Step};
-use ld_terms::{Bank, Node, TermId, Terms};
+use ld_terms::{Bank, Node, TermFault, TermId, Terms};
 use std::alloc::Global;
 use std::test::Fail;
 
@@ -86,12 +86,49 @@ fn lines(alloc: Global, bank: &mut Bank, env: &mut Env, deriv: &mut Deriv) -> Re
     ensures lines { OnOk result ((known_of bank.new deriv.new).env ≡ sample.lines) }
     ensures kept { OnOk result (Extends bank.old bank.new) }
 {
+    let (star, over, x) = terms(bank)?;
+    let (within, typed) = judgements(deriv, bank, star, over, x)?;
+    entries(alloc, bank, env, deriv, (star, over, x), (within, typed))?;
+    Ok(())
+}
+
+// `*`, `box` and `x`
+fn terms(bank: &mut Bank) -> Result<(TermId, TermId, TermId), TermFault>
+    ensures star { IfOk result (λ t. StandsFor bank.new t.0 tree.Star) }
+    ensures over { IfOk result (λ t. StandsFor bank.new t.1 tree.Box) }
+    ensures x { IfOk result (λ t. StandsFor bank.new t.2 (tree.Var 0)) }
+    ensures kept { OnOk result (Extends bank.old bank.new) }
+{
     let star = bank.add(Node::Star)?;
     let over = bank.add(Node::Box_)?;
     let x = bank.add(Node::Var(0))?;
-    let sort = sort(deriv, bank, star, over)?;
-    let within = inner_sort(deriv, bank, star, over, sort)?;
-    let typed = variable(deriv, bank, x, star, sort, within)?;
+    Ok((star, over, x))
+}
+
+// The entries of the lines, by the judgements of `*` and of `x` in the context of a variable of type `*`.
+fn entries(
+    alloc: Global,
+    bank: &Bank,
+    env: &mut Env,
+    deriv: &mut Deriv,
+    terms: (TermId, TermId, TermId),
+    judges: (JudgeId, JudgeId),
+) -> Result<(), Fail>
+    requires none { env.old ≡ [] }
+    requires no_entries { (known_of bank.now deriv.old).env ≡ [] }
+    requires sound { IsSound bank.now deriv.old }
+    requires star { StandsFor bank.now terms.0 tree.Star }
+    requires over { StandsFor bank.now terms.1 tree.Box }
+    requires x { StandsFor bank.now terms.2 (tree.Var 0) }
+    requires within { Knows (known_of bank.now deriv.old) judges.0 judged.inner_sort }
+    requires typed { Knows (known_of bank.now deriv.old) judges.1 judged.variable }
+    ensures sound { OnOk result (IsSound bank.now deriv.new) }
+    ensures env { OnOk result (env_of bank.now env.new ≡ (known_of bank.now deriv.new).env) }
+    ensures live { OnOk result (AreLive bank.now env.new) }
+    ensures lines { OnOk result ((known_of bank.now deriv.new).env ≡ sample.lines) }
+{
+    let (star, over, x) = terms;
+    let (within, typed) = judges;
     let names = name(alloc, b'p')?;
     let entry = unary(alloc, None, star, star)?;
     primitive(bank, env, deriv, names, entry, within)?;
@@ -102,6 +139,29 @@ fn lines(alloc: Global, bank: &mut Bank, env: &mut Env, deriv: &mut Deriv) -> Re
     let entry = unary(alloc, Some(x), star, star)?;
     line(bank, env, deriv, names, entry, typed)?;
     Ok(())
+}
+
+// `* : box` and `x : *` in the context of a variable of type `*`, from no judgement.
+fn judgements(
+    deriv: &mut Deriv,
+    bank: &Bank,
+    star: TermId,
+    over: TermId,
+    x: TermId,
+) -> Result<(JudgeId, JudgeId), NoMemory>
+    requires none { deriv.old ≡ [] }
+    requires star { StandsFor bank.now star tree.Star }
+    requires over { StandsFor bank.now over tree.Box }
+    requires x { StandsFor bank.now x (tree.Var 0) }
+    ensures within { IfOk result (λ j. Knows (known_of bank.now deriv.new) j.0 judged.inner_sort) }
+    ensures typed { IfOk result (λ j. Knows (known_of bank.now deriv.new) j.1 judged.variable) }
+    ensures env { OnOk result ((known_of bank.now deriv.new).env ≡ []) }
+    ensures sound { IsSound bank.now deriv.new }
+{
+    let sort = sort(deriv, bank, star, over)?;
+    let within = inner_sort(deriv, bank, star, over, sort)?;
+    let typed = variable(deriv, bank, x, star, sort, within)?;
+    Ok((within, typed))
 }
 
 // `* : box`

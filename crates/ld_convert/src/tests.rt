@@ -12,6 +12,7 @@ use ld_record::Deriv;
 use ld_reduce::Stop;
 use ld_terms::{Bank, Node, TermFault, TermId};
 use std::alloc::Global;
+use std::process::Abort;
 use std::test::Fail;
 
 // What a comparison finds, with the nodes of terms that are apart.
@@ -55,7 +56,7 @@ pub(crate) fn comparison(
 }
 
 // One comparison over the lines.
-pub(crate) fn compare_once(
+fn compare_once(
     alloc: Global,
     bank: &mut Bank,
     ends: (TermId, TermId),
@@ -70,6 +71,24 @@ pub(crate) fn compare_once(
     let mut deriv = Deriv::new(alloc);
     let mut job = ready(alloc, bank, &mut env, &mut deriv, ends, steps)?;
     Ok(comparison(alloc, bank, &env, &mut deriv, ends, nest, &mut job))
+}
+
+// One comparison over the lines comes to what is expected, at a nesting and with so many steps.
+pub(crate) fn comes_to(
+    rt: &impl Abort,
+    alloc: Global,
+    bank: &mut Bank,
+    ends: (TermId, TermId),
+    limits: (u32, u64),
+    expected: Outcome,
+) -> Result<(), Fail>
+    requires first { IsTermAt bank.old ends.0 }
+    requires second { IsTermAt bank.old ends.1 }
+    requires nest { limits.0 ≤ 1001 }
+{
+    let outcome = compare_once(alloc, bank, ends, limits.0, limits.1)?;
+    assert_eq!(rt; outcome, expected);
+    Ok(())
 }
 
 // `(fun x : *. x) u`
@@ -159,18 +178,16 @@ fn nested_instances(bank: &mut Bank) -> Result<(TermId, TermId), TermFault>
 fn finds_equal_trees_at_once(rt: HostRuntime) -> Result<(), Fail> {
     let mut bank = Bank::new(rt.alloc());
     let ends = instances(&mut bank, (2, 3), (2, 3))?;
-    let outcome = compare_once(rt.alloc(), &mut bank, ends, 1, 10)?;
-    assert_eq!(rt; outcome, (Ok(Found::Same), (10, 0), 0));
-    Ok(())
+    let expected = (Ok(Found::Same), (10, 0), 0);
+    comes_to(&rt, rt.alloc(), &mut bank, ends, (1, 10), expected)
 }
 
 #[test]
 fn makes_a_beta_step(rt: HostRuntime) -> Result<(), Fail> {
     let mut bank = Bank::new(rt.alloc());
     let ends = redex_and_reduct(&mut bank)?;
-    let outcome = compare_once(rt.alloc(), &mut bank, ends, 1, 10)?;
-    assert_eq!(rt; outcome, (Ok(Found::Same), (9, 1), 1));
-    Ok(())
+    let expected = (Ok(Found::Same), (9, 1), 1);
+    comes_to(&rt, rt.alloc(), &mut bank, ends, (1, 10), expected)
 }
 
 // `k`, unfolded, gives `c 3`. From `c`, unfolded first, it would be two steps more.
@@ -178,18 +195,23 @@ fn makes_a_beta_step(rt: HostRuntime) -> Result<(), Fail> {
 fn unfolds_the_later_constant(rt: HostRuntime) -> Result<(), Fail> {
     let mut bank = Bank::new(rt.alloc());
     let ends = nested_instances(&mut bank)?;
-    let outcome = compare_once(rt.alloc(), &mut bank, ends, 1, 10)?;
-    assert_eq!(rt; outcome, (Ok(Found::Same), (9, 1), 1));
-    Ok(())
+    let expected = (Ok(Found::Same), (9, 1), 1);
+    comes_to(&rt, rt.alloc(), &mut bank, ends, (1, 10), expected)
 }
 
 #[test]
 fn unfolds_the_later_constant_on_the_right(rt: HostRuntime) -> Result<(), Fail> {
     let mut bank = Bank::new(rt.alloc());
     let (later, earlier) = nested_instances(&mut bank)?;
-    let outcome = compare_once(rt.alloc(), &mut bank, (earlier, later), 1, 10)?;
-    assert_eq!(rt; outcome, (Ok(Found::Same), (9, 1), 1));
-    Ok(())
+    let expected = (Ok(Found::Same), (9, 1), 1);
+    comes_to(
+        &rt,
+        rt.alloc(),
+        &mut bank,
+        (earlier, later),
+        (1, 10),
+        expected,
+    )
 }
 
 // `c` isn't unfolded. The arguments are a pair, and the instances.
@@ -197,9 +219,8 @@ fn unfolds_the_later_constant_on_the_right(rt: HostRuntime) -> Result<(), Fail> 
 fn compares_arguments_before_unfolding(rt: HostRuntime) -> Result<(), Fail> {
     let mut bank = Bank::new(rt.alloc());
     let ends = instances_of_redex(&mut bank, 1)?;
-    let outcome = compare_once(rt.alloc(), &mut bank, ends, 1, 10)?;
-    assert_eq!(rt; outcome, (Ok(Found::Same), (9, 1), 2));
-    Ok(())
+    let expected = (Ok(Found::Same), (9, 1), 2);
+    comes_to(&rt, rt.alloc(), &mut bank, ends, (1, 10), expected)
 }
 
 // Both instances of `c` are `*`.
@@ -207,19 +228,17 @@ fn compares_arguments_before_unfolding(rt: HostRuntime) -> Result<(), Fail> {
 fn unfolds_both_where_arguments_are_apart(rt: HostRuntime) -> Result<(), Fail> {
     let mut bank = Bank::new(rt.alloc());
     let ends = instances(&mut bank, (1, 3), (1, 4))?;
-    let outcome = compare_once(rt.alloc(), &mut bank, ends, 1, 10)?;
-    assert_eq!(rt; outcome, (Ok(Found::Same), (8, 2), 1));
-    Ok(())
+    let expected = (Ok(Found::Same), (8, 2), 1);
+    comes_to(&rt, rt.alloc(), &mut bank, ends, (1, 10), expected)
 }
 
 #[test]
 fn keeps_no_pair_that_is_apart(rt: HostRuntime) -> Result<(), Fail> {
     let mut bank = Bank::new(rt.alloc());
     let ends = instances(&mut bank, (2, 3), (2, 4))?;
-    let outcome = compare_once(rt.alloc(), &mut bank, ends, 1, 10)?;
     let apart = Found::Apart(Node::Var(3), Node::Var(4), 0);
-    assert_eq!(rt; outcome, (Ok(apart), (8, 2), 0));
-    Ok(())
+    let expected = (Ok(apart), (8, 2), 0);
+    comes_to(&rt, rt.alloc(), &mut bank, ends, (1, 10), expected)
 }
 
 #[test]
@@ -239,10 +258,9 @@ fn unfolds_no_primitive(rt: HostRuntime) -> Result<(), Fail> {
 fn compares_arguments_of_a_primitive(rt: HostRuntime) -> Result<(), Fail> {
     let mut bank = Bank::new(rt.alloc());
     let ends = instances(&mut bank, (0, 3), (0, 4))?;
-    let outcome = compare_once(rt.alloc(), &mut bank, ends, 1, 10)?;
     let apart = Found::Apart(Node::Var(3), Node::Var(4), 0);
-    assert_eq!(rt; outcome, (Ok(apart), (10, 0), 0));
-    Ok(())
+    let expected = (Ok(apart), (10, 0), 0);
+    comes_to(&rt, rt.alloc(), &mut bank, ends, (1, 10), expected)
 }
 
 // `*` and `all x : *. *`
@@ -259,10 +277,9 @@ fn sort_and_product(bank: &mut Bank) -> Result<(TermId, TermId), TermFault>
 fn tells_a_sort_from_a_product(rt: HostRuntime) -> Result<(), Fail> {
     let mut bank = Bank::new(rt.alloc());
     let ends = sort_and_product(&mut bank)?;
-    let outcome = compare_once(rt.alloc(), &mut bank, ends, 1, 10)?;
     let apart = Found::Apart(Node::Star, Node::Pi(ends.0, ends.0), 0);
-    assert_eq!(rt; outcome, (Ok(apart), (10, 0), 0));
-    Ok(())
+    let expected = (Ok(apart), (10, 0), 0);
+    comes_to(&rt, rt.alloc(), &mut bank, ends, (1, 10), expected)
 }
 
 // `fun x : *. all y : *. i`
@@ -290,8 +307,7 @@ pub(crate) fn two_under_binders(bank: &mut Bank) -> Result<(TermId, TermId), Ter
 fn counts_binders(rt: HostRuntime) -> Result<(), Fail> {
     let mut bank = Bank::new(rt.alloc());
     let ends = two_under_binders(&mut bank)?;
-    let outcome = compare_once(rt.alloc(), &mut bank, ends, 1, 10)?;
     let apart = Found::Apart(Node::Var(1), Node::Var(0), 2);
-    assert_eq!(rt; outcome, (Ok(apart), (10, 0), 0));
-    Ok(())
+    let expected = (Ok(apart), (10, 0), 0);
+    comes_to(&rt, rt.alloc(), &mut bank, ends, (1, 10), expected)
 }
