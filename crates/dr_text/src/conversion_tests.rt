@@ -7,11 +7,12 @@ ghost use Rattle.ld_record.specs.Growth.{Knows, KnowsContext, Adds};
 ghost use Rattle.ld_record.specs.Tests.{judged, one_type, same_type};
 ghost use Rattle.dr_text.specs.Written.{last_judgement};
 
-use crate::tests::{start, written};
-use crate::variable_tests::{Terms, one_type, variable_terms};
+use crate::tests::{joined, written};
+use crate::variable_tests::{Terms, first_sort, one_type, variable_terms};
 use fb_base::NoMemory;
 use ld_record::{CtxId, Deriv, EqStep, Judge, JudgeId, Step};
 use ld_terms::{Bank, Node, TermFault, TermId};
+use std::alloc::Global;
 use std::test::Fail;
 
 // `(fun B : * . B)` and its type, and the applications of it to the innermost variable and the next one.
@@ -173,29 +174,48 @@ fn converted(
     Ok(())
 }
 
-#[test]
-fn writes_a_conversion(rt: HostRuntime) -> Result<(), Fail> {
-    let mut bank = Bank::new(rt.alloc());
+// The derivation of it, from no judgement, and its last judgement.
+fn derived(deriv: &mut Deriv, bank: &Bank, terms: Terms, redex: Redex) -> Result<JudgeId, NoMemory>
+    requires none { deriv.old ≡ [] }
+    requires star { StandsFor bank.now terms.star tree.Star }
+    requires box_sort { StandsFor bank.now terms.box_sort tree.Box }
+    requires first { StandsFor bank.now terms.first (tree.Var 0) }
+    requires second { StandsFor bank.now terms.second (tree.Var 1) }
+    requires product { StandsFor bank.now redex.product (tree.Pi tree.Star tree.Star) }
+    requires function { StandsFor bank.now redex.function same_type }
+    requires inner { StandsFor bank.now redex.first (tree.App same_type (tree.Var 0)) }
+    requires left { StandsFor bank.now redex.second (tree.App same_type (tree.Var 1)) }
+    ensures last { IfOk result (λ j. Knows (known_of bank.now deriv.new) j (last_judgement (known_of bank.now deriv.new))) }
+    ensures sound { IsSound bank.now deriv.new }
+{
+    let j = first_sort(deriv, bank, terms)?;
+    let (ctx, sort, typed) = one_type(deriv, bank, terms, j)?;
+    let function = function(deriv, bank, terms, redex, j, sort, typed)?;
+    let applied = applied(deriv, bank, terms.star, redex, ctx, function, j, typed)?;
+    converted(deriv, bank, terms, redex, ctx, typed, applied, j)?;
+    Ok(j)
+}
+
+// The file of it.
+fn file(alloc: Global) -> Result<Vec<u8>, Fail> {
+    let mut bank = Bank::new(alloc);
     let terms = variable_terms(&mut bank)?;
     let redex = redex_terms(&mut bank, terms)?;
-    let mut deriv = Deriv::new(rt.alloc());
-    let j = start(&mut deriv, &bank, terms.star, terms.box_sort)?;
-    let (ctx, sort, typed) = one_type(&mut deriv, &bank, terms, j)?;
-    let function = function(&mut deriv, &bank, terms, redex, j, sort, typed)?;
-    let applied = applied(
-        &mut deriv, &bank, terms.star, redex, ctx, function, j, typed,
-    )?;
-    converted(&mut deriv, &bank, terms, redex, ctx, typed, applied, j)?;
-    let out = written(rt.alloc(), &bank, &deriv, j)?;
+    let mut deriv = Deriv::new(alloc);
+    let last = derived(&mut deriv, &bank, terms, redex)?;
+    written(alloc, &bank, &deriv, last)
+}
+
+#[test]
+fn writes_a_conversion(rt: HostRuntime) -> Result<(), Fail> {
+    let out = file(rt.alloc())?;
     let variable =
         b"LDDERIV1\x01\x02\x30\x00\x00\x00\x01\x10\x00\x00\x32\x00\x01\x00\x01\x00\x00\x03\x00\x31\x00\x01\x02\x00\x00";
     let applied =
         b"\x06\x00\x00\x33\x00\x00\x03\x01\x00\x01\x05\x00\x02\x35\x00\x00\x04\x03\x02\x03\x32\x00\x01\x04\x03\x04\x00\x04\x04\x02\x34\x00\x01\x05\x00\x05\x02";
     let converted =
         b"\x10\x01\x05\x03\x01\x04\x04\x06\x31\x00\x02\x02\x07\x06\x32\x00\x02\x06\x00\x02\x06\x23\x07\x06\x36\x00\x02\x02\x06\x07\x08\x00\x60\x00";
-    let mut wanted = variable.to_vec(rt.alloc())?;
-    wanted.extend_from_slice(applied)?;
-    wanted.extend_from_slice(converted)?;
+    let wanted = joined(rt.alloc(), variable, applied, converted)?;
     assert_eq!(rt; out.as_slice(), wanted.as_slice());
     Ok(())
 }

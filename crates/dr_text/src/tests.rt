@@ -92,6 +92,19 @@ pub(crate) fn written(
     Ok(out)
 }
 
+// Three parts of a file, one after the other.
+pub(crate) fn joined(
+    alloc: Global,
+    first: &[u8],
+    second: &[u8],
+    third: &[u8],
+) -> Result<Vec<u8>, Fail> {
+    let mut all = first.to_vec(alloc)?;
+    all.extend_from_slice(second)?;
+    all.extend_from_slice(third)?;
+    Ok(all)
+}
+
 #[test]
 fn writes_no_entries(rt: HostRuntime) -> Result<(), Fail> {
     let mut bank = Bank::new(rt.alloc());

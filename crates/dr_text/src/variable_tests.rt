@@ -10,7 +10,7 @@ ghost use Rattle.ld_record.specs.Growth.{Knows, KnowsContext, Adds};
 ghost use Rattle.ld_record.specs.Tests.{judged, one_type, type_and_member};
 ghost use Rattle.dr_text.specs.Written.{last_judgement};
 
-use crate::tests::{start, written};
+use crate::tests::{joined, start, written};
 use fb_base::{NoMemory, Text};
 use ld_record::{CtxId, Deriv, Judge, JudgeId, Judges, Step};
 use ld_terms::{Bank, Node, TermFault, TermId};
@@ -55,6 +55,19 @@ fn instance(bank: &mut Bank, first: TermId, second: TermId) -> Result<TermId, Te
     let one = bank.add(Node::Cons(second, none))?;
     let two = bank.add(Node::Cons(first, one))?;
     bank.add(Node::Const(0, two))
+}
+
+// `* : box` over no entries, as the first judgement.
+pub(crate) fn first_sort(deriv: &mut Deriv, bank: &Bank, terms: Terms) -> Result<JudgeId, NoMemory>
+    requires none { deriv.old ≡ [] }
+    requires star { StandsFor bank.now terms.star tree.Star }
+    requires box_sort { StandsFor bank.now terms.box_sort tree.Box }
+    ensures number { IfOk result (λ j. Knows (known_of bank.now deriv.new) j (judged 0 tree.Nil tree.Star tree.Box)) }
+    ensures env { OnOk result ((known_of bank.now deriv.new).env ≡ []) }
+    ensures sound { IsSound bank.now deriv.new }
+{
+    let j = start(deriv, bank, terms.star, terms.box_sort)?;
+    Ok(j)
 }
 
 // The context of `A : *`, and there `* : box` and `A : *`.
@@ -142,6 +155,30 @@ fn member(
     Ok((sort, outer, member))
 }
 
+// The same from no judgement, and `* : box`.
+fn variables(
+    deriv: &mut Deriv,
+    bank: &Bank,
+    terms: Terms,
+) -> Result<(JudgeId, JudgeId, JudgeId, JudgeId), NoMemory>
+    requires none { deriv.old ≡ [] }
+    requires star { StandsFor bank.now terms.star tree.Star }
+    requires box_sort { StandsFor bank.now terms.box_sort tree.Box }
+    requires first { StandsFor bank.now terms.first (tree.Var 0) }
+    requires second { StandsFor bank.now terms.second (tree.Var 1) }
+    ensures sort { IfOk result (λ r. Knows (known_of bank.now deriv.new) r.0 (judged 0 type_and_member tree.Star tree.Box)) }
+    ensures outer { IfOk result (λ r. Knows (known_of bank.now deriv.new) r.1 (judged 0 type_and_member (tree.Var 1) tree.Star)) }
+    ensures member { IfOk result (λ r. Knows (known_of bank.now deriv.new) r.2 (judged 0 type_and_member (tree.Var 0) (tree.Var 1))) }
+    ensures j { IfOk result (λ r. Knows (known_of bank.now deriv.new) r.3 (judged 0 tree.Nil tree.Star tree.Box)) }
+    ensures env { OnOk result ((known_of bank.now deriv.new).env ≡ []) }
+    ensures sound { IsSound bank.now deriv.new }
+{
+    let j = first_sort(deriv, bank, terms)?;
+    let (ctx, sort, typed) = one_type(deriv, bank, terms, j)?;
+    let (sort, outer, member) = member(deriv, bank, terms, ctx, sort, typed)?;
+    Ok((sort, outer, member, j))
+}
+
 // The primitive of these parameters and the type `*`, and the same judgements over it.
 fn primitive(
     deriv: &mut Deriv,
@@ -225,30 +262,52 @@ fn judged_instance(
     Ok(())
 }
 
-#[test]
-fn writes_an_instance_with_arguments(rt: HostRuntime) -> Result<(), Fail> {
-    let mut bank = Bank::new(rt.alloc());
+// The derivation of the instance, and its last judgement.
+fn derived(
+    alloc: Global,
+    deriv: &mut Deriv,
+    bank: &Bank,
+    terms: Terms,
+    term: TermId,
+) -> Result<JudgeId, Fail>
+    requires none { deriv.old ≡ [] }
+    requires star { StandsFor bank.now terms.star tree.Star }
+    requires box_sort { StandsFor bank.now terms.box_sort tree.Box }
+    requires first { StandsFor bank.now terms.first (tree.Var 0) }
+    requires second { StandsFor bank.now terms.second (tree.Var 1) }
+    requires term { StandsFor bank.now term (tree.Const 0 (tree.Nil ▸ tree.Var 1 ▸ tree.Var 0)) }
+    ensures last { IfOk result (λ j. Knows (known_of bank.now deriv.new) j (last_judgement (known_of bank.now deriv.new))) }
+    ensures sound { OnOk result (IsSound bank.now deriv.new) }
+{
+    let (sort, outer, member, j) = variables(deriv, bank, terms)?;
+    let name = Text::from_bytes(alloc, b"p")?;
+    let (sort, outer, member, last) = primitive(deriv, bank, name, sort, outer, member, j)?;
+    let judges = arguments(alloc, outer, member)?;
+    judged_instance(
+        deriv, bank, term, terms.star, sort, outer, member, judges, last,
+    )?;
+    Ok(last)
+}
+
+// The file of it.
+fn file(alloc: Global) -> Result<Vec<u8>, Fail> {
+    let mut bank = Bank::new(alloc);
     let terms = variable_terms(&mut bank)?;
     let term = instance(&mut bank, terms.first, terms.second)?;
-    let name = Text::from_bytes(rt.alloc(), b"p")?;
-    let mut deriv = Deriv::new(rt.alloc());
-    let j = start(&mut deriv, &bank, terms.star, terms.box_sort)?;
-    let (ctx, sort, typed) = one_type(&mut deriv, &bank, terms, j)?;
-    let (sort, outer, member) = member(&mut deriv, &bank, terms, ctx, sort, typed)?;
-    let (sort, outer, member, last) = primitive(&mut deriv, &bank, name, sort, outer, member, j)?;
-    let judges = arguments(rt.alloc(), outer, member)?;
-    judged_instance(
-        &mut deriv, &bank, term, terms.star, sort, outer, member, judges, last,
-    )?;
-    let out = written(rt.alloc(), &bank, &deriv, last)?;
+    let mut deriv = Deriv::new(alloc);
+    let last = derived(alloc, &mut deriv, &bank, terms, term)?;
+    written(alloc, &bank, &deriv, last)
+}
+
+#[test]
+fn writes_an_instance_with_arguments(rt: HostRuntime) -> Result<(), Fail> {
+    let out = file(rt.alloc())?;
     let variables =
         b"LDDERIV1\x01\x02\x30\x00\x00\x00\x01\x10\x00\x00\x32\x00\x01\x00\x01\x00\x00\x03\x00\x31\x00\x01\x02\x00\x00\x10\x01\x02\x32\x00\x02\x00\x01\x01\x02\x03\x01\x32\x00\x02\x03\x00\x02\x02\x31\x00\x02\x02\x03\x02";
     let entry =
         b"\x41\x01p\x03\x38\x01\x02\x00\x01\x03\x38\x01\x02\x03\x00\x04\x38\x01\x02\x02\x03\x05\x38\x01\x00\x00\x01\x00";
     let instance = b"\x07\x00\x02\x03\x02\x3a\x01\x02\x04\x00\x06\x02\x07\x08\x60\x09";
-    let mut wanted = variables.to_vec(rt.alloc())?;
-    wanted.extend_from_slice(entry)?;
-    wanted.extend_from_slice(instance)?;
+    let wanted = joined(rt.alloc(), variables, entry, instance)?;
     assert_eq!(rt; out.as_slice(), wanted.as_slice());
     Ok(())
 }
