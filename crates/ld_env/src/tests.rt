@@ -43,6 +43,10 @@ fn expect_numbers(rt: &impl Abort, found: (u32, u32), want: (u32, u32)) {
     assert_eq!(rt; found, want);
 }
 
+fn expect_answer(rt: &impl Abort, found: &Result<u32, EnvFault>, want: &Result<u32, EnvFault>) {
+    assert_eq!(rt; found, want);
+}
+
 fn expect_place(rt: &impl Abort, env: &Env, name: &[u8], want: Option<u32>) {
     assert_eq!(rt; env.find(name), want);
 }
@@ -77,7 +81,7 @@ fn refuses_a_name_that_is_taken(rt: HostRuntime) -> Result<(), Fail> {
     let (mut env, star, over) = sample(&rt, rt.alloc())?;
     let again = push(rt.alloc(), &mut env, b"nat", over);
     expect_entry(&rt, &env, 0, b"nat", star);
-    assert_eq!(rt; again, Err(EnvFault::NameTaken));
+    expect_answer(&rt, &again, &Err(EnvFault::NameTaken));
     Ok(())
 }
 
@@ -88,6 +92,6 @@ fn takes_the_last_away(rt: HostRuntime) -> Result<(), Fail> {
     env.pop();
     expect_place(&rt, &env, b"nat", None);
     let again = push(rt.alloc(), &mut env, b"nat", over);
-    assert_eq!(rt; again, Ok(0));
+    expect_answer(&rt, &again, &Ok(0));
     Ok(())
 }
