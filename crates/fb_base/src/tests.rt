@@ -1,6 +1,7 @@
 //! What no contract says: that calls succeed where memory is left, and that real files are reached.
-ghost use Rattle.std.specs.Prelude.{◌≡◌, IsErrOf, IsTrue, OnOk, Some};
+ghost use Rattle.std.specs.Prelude.{◌≡◌, true, IfOk, IsErrOf, IsTrue, OnOk, Some};
 ghost use Rattle.fb_base.specs.Desk.{Rose, content_of};
+ghost use Rattle.fb_base.specs.MemDesk.{seen_of};
 ghost use Rattle.fb_base.specs.declared.desk.DeskFault.TheVariants.{Failed};
 
 use crate::{Desk, DeskFault, HostDesk, MemDesk, NoMemory, Text, place};
@@ -38,6 +39,28 @@ fn copy<D: Desk>(alloc: Global, desk: &mut D, from: &str, to: &str) -> Result<()
     desk.append(&bytes)
 }
 
+// Fetches so much of a file, and compares it.
+fn expect_content<D: Desk>(
+    rt: &impl Abort,
+    alloc: Global,
+    desk: &mut D,
+    name: &str,
+    most: usize,
+    want: &[u8],
+) -> Result<(), Fail>
+    ensures { (D.seen desk.new).started ≡ (D.seen desk.old).started }
+{
+    assert_eq!(rt; desk.fetch(alloc, name, most)?.as_slice(), want);
+    Ok(())
+}
+
+// A fetch that is refused.
+fn expect_refused<D: Desk>(rt: &impl Abort, alloc: Global, desk: &mut D, name: &str, most: usize)
+    ensures { (D.seen desk.new).started ≡ (D.seen desk.old).started }
+{
+    assert!(rt; desk.fetch(alloc, name, most).is_err());
+}
+
 #[test]
 fn texts_and_places(rt: HostRuntime) -> Result<(), Fail> {
     let letters = text(rt.alloc(), "a\nλx")?;
@@ -60,24 +83,36 @@ fn texts_and_places(rt: HostRuntime) -> Result<(), Fail> {
 #[test]
 fn fetches_from_memory(rt: HostRuntime) -> Result<(), Fail> {
     let mut desk = failing_desk(rt.alloc(), 3, 0)?;
-    assert_eq!(rt;
-        desk.fetch(rt.alloc(), "notes", 9)?.as_slice(),
-        b"new".as_slice()
-    );
-    assert_eq!(rt;
-        desk.fetch(rt.alloc(), "book", 2)?.as_slice(),
-        b"a ".as_slice()
-    );
-    assert!(rt; desk.fetch(rt.alloc(), "boo", 9).is_err());
-    assert!(rt; desk.fetch(rt.alloc(), "book", 9).is_err());
-    assert_eq!(rt;
-        desk.fetch(rt.alloc(), "book", 9)?.as_slice(),
-        b"a := b".as_slice()
-    );
+    expect_content(&rt, rt.alloc(), &mut desk, "notes", 9, b"new")?;
+    expect_content(&rt, rt.alloc(), &mut desk, "book", 2, b"a ")?;
+    expect_refused(&rt, rt.alloc(), &mut desk, "boo", 9);
+    expect_refused(&rt, rt.alloc(), &mut desk, "book", 9);
+    expect_content(&rt, rt.alloc(), &mut desk, "book", 9, b"a := b")?;
     assert_eq!(rt; desk.faults(), 2);
+    Ok(())
+}
+
+#[test]
+fn copies_a_file(rt: HostRuntime) -> Result<(), Fail> {
+    let mut desk = failing_desk(rt.alloc(), 3, 0)?;
     copy(rt.alloc(), &mut desk, "book", "new")?;
     assert!(rt; desk.file("new") == desk.file("book"));
     Ok(())
+}
+
+// Compares what a file holds.
+fn expect_held(rt: &impl Abort, desk: &MemDesk, name: &str, held: &str) {
+    assert!(rt; desk.file(name) == Some(held.as_bytes()), "{held}");
+}
+
+// A desk on which `book` holds `head`, and the next call fails after `count` bytes.
+fn started_desk(alloc: Global, count: usize) -> Result<MemDesk, Fail>
+    ensures { IfOk result (λ desk. (seen_of desk).started ≡ true) }
+{
+    let mut desk = failing_desk(alloc, 2, count)?;
+    desk.start("book")?;
+    desk.append(b"head")?;
+    Ok(desk)
 }
 
 // Appends `piece` behind `head` in a call that fails after `count` bytes, and compares what the file holds then.
@@ -88,14 +123,9 @@ fn append_in_part(
     piece: &str,
     held: &str,
 ) -> Result<(), Fail> {
-    let mut desk = failing_desk(alloc, 2, count)?;
-    desk.start("book")?;
-    desk.append(b"head")?;
+    let mut desk = started_desk(alloc, count)?;
     assert!(rt; desk.append(piece.as_bytes()).is_err());
-    assert!(rt;
-        desk.file("book") == Some(held.as_bytes()),
-        "{piece} after {count}"
-    );
+    expect_held(rt, &desk, "book", held);
     assert_eq!(rt; desk.faults(), 1);
     Ok(())
 }
@@ -104,13 +134,16 @@ fn append_in_part(
 fn appends_in_part(rt: HostRuntime) -> Result<(), Fail> {
     append_in_part(&rt, rt.alloc(), 5, "abcdefgh", "headabcde")?;
     append_in_part(&rt, rt.alloc(), 5, "abcdef", "headabcde")?;
-    // A piece that is no longer than the count passes but for its last byte.
+    append_in_part(&rt, rt.alloc(), 0, "abc", "head")
+}
+
+// A piece that is no longer than the count passes but for its last byte.
+#[test]
+fn appends_all_but_a_byte(rt: HostRuntime) -> Result<(), Fail> {
     append_in_part(&rt, rt.alloc(), 5, "abcde", "headabcd")?;
     append_in_part(&rt, rt.alloc(), 5, "abc", "headab")?;
     append_in_part(&rt, rt.alloc(), 5, "a", "head")?;
-    append_in_part(&rt, rt.alloc(), 5, "", "head")?;
-    append_in_part(&rt, rt.alloc(), 0, "abc", "head")?;
-    Ok(())
+    append_in_part(&rt, rt.alloc(), 5, "", "head")
 }
 
 // Starts `book` in a call that fails after `count` bytes, and compares what it holds then.
@@ -119,8 +152,8 @@ fn start_in_part(rt: &impl Abort, alloc: Global, count: usize, held: &str) -> Re
     assert!(rt; desk.start("book").is_err());
     desk.start("other")?;
     desk.append(b"x")?;
-    assert!(rt; desk.file("book") == Some(held.as_bytes()), "after {count}");
-    assert!(rt; desk.file("other").is_some());
+    expect_held(rt, &desk, "book", held);
+    expect_held(rt, &desk, "other", "x");
     Ok(())
 }
 
@@ -148,30 +181,34 @@ fn reaches_real_files(rt: HostRuntime) -> Result<(), Fail> {
     desk.start(name)?;
     desk.append(b"first, ")?;
     desk.append(b"second")?;
-    assert_eq!(rt;
-        desk.fetch(rt.alloc(), name, 100)?.as_slice(),
-        b"first, second".as_slice()
-    );
-    assert_eq!(rt;
-        desk.fetch(rt.alloc(), name, 5)?.as_slice(),
-        b"first".as_slice()
-    );
+    expect_content(&rt, rt.alloc(), &mut desk, name, 100, b"first, second")?;
+    expect_content(&rt, rt.alloc(), &mut desk, name, 5, b"first")?;
     desk.start(name)?;
-    assert_eq!(rt; desk.fetch(rt.alloc(), name, 5)?.len(), 0);
-
-    // More than is read and written at once.
-    let long = vec![in rt.alloc(); b'x'; 10_000]?;
-    desk.append(&long)?;
-    assert_eq!(rt;
-        desk.fetch(rt.alloc(), name, 20_000)?.as_slice(),
-        long.as_slice()
-    );
-    assert_eq!(rt; desk.fetch(rt.alloc(), name, 8192)?.len(), 8192);
-    desk.say(b"said\n")?;
+    expect_content(&rt, rt.alloc(), &mut desk, name, 5, b"")?;
     fs::remove_file(&rt, name)?;
+    expect_refused(&rt, rt.alloc(), &mut desk, name, 5);
+    Ok(())
+}
 
-    assert!(rt; desk.fetch(rt.alloc(), name, 5).is_err());
-    assert!(rt; desk.fetch(rt.alloc(), ".", 5).is_err());
+// More than is read and written at once.
+#[test]
+fn reaches_long_files(rt: HostRuntime) -> Result<(), Fail> {
+    let name = "host-desk-long.txt";
+    let long = vec![in rt.alloc(); b'x'; 10_000]?;
+    let mut desk = HostDesk::new(rt.clone()?);
+    desk.start(name)?;
+    desk.append(&long)?;
+    expect_content(&rt, rt.alloc(), &mut desk, name, 20_000, &long)?;
+    expect_content(&rt, rt.alloc(), &mut desk, name, 8192, &[b'x'; 8192])?;
+    fs::remove_file(&rt, name)?;
+    Ok(())
+}
+
+#[test]
+fn refuses_folders(rt: HostRuntime) -> Result<(), Fail> {
+    let mut desk = HostDesk::new(rt.clone()?);
+    desk.say(b"said\n")?;
+    expect_refused(&rt, rt.alloc(), &mut desk, ".", 5);
     assert!(rt; desk.start(".").is_err());
     assert!(rt; desk.start("no-such-folder/x").is_err());
     Ok(())
