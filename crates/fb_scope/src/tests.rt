@@ -79,12 +79,30 @@ fn missing(wanted: u32, given: u32) -> Result<Found, ScopeFault> {
     Err(ScopeFault::ParamsMissing { wanted, given })
 }
 
+// Closes flags down to a depth, and opens another.
+fn reopen(rt: &impl Abort, scope: &mut Scope, depth: u32, name: &[u8]) -> Result<(), Fail>
+    requires { scope.old.opened < 100 }
+    ensures { OnOk result (scope.new.marks ≡ scope.old.marks) }
+{
+    scope.leave_to(depth)?;
+    open(rt, scope, name)
+}
+
+fn expect_variables(rt: &impl Abort, scope: &Scope, want: u32) {
+    assert_eq!(rt; scope.variable_count(), want);
+}
+
+fn expect_further(rt: &impl Abort, scope: &Scope, want: Option<u32>)
+    requires { 0 < length scope.now.marks }
+{
+    assert_eq!(rt; scope.further(0), want);
+}
+
 // [x] [y] k, both closed, and another [x].
 #[test]
 fn a_flag_of_the_same_name_is_another(rt: HostRuntime) -> Result<(), Fail> {
     let (env, mut scope) = book(&rt, rt.alloc())?;
-    scope.leave_to(0)?;
-    open(&rt, &mut scope, b"x")?;
+    reopen(&rt, &mut scope, 0, b"x")?;
     expect(&rt, &env, &scope, b"k", 1, missing(2, 1));
     expect(&rt, &env, &scope, b"k", 2, constant(0, 0));
     Ok(())
@@ -93,7 +111,7 @@ fn a_flag_of_the_same_name_is_another(rt: HostRuntime) -> Result<(), Fail> {
 #[test]
 fn open_flags_are_implied(rt: HostRuntime) -> Result<(), Fail> {
     let (env, scope) = book(&rt, rt.alloc())?;
-    assert_eq!(rt; scope.variable_count(), 2);
+    expect_variables(&rt, &scope, 2);
     expect(&rt, &env, &scope, b"k", 0, constant(0, 2));
     expect(&rt, &env, &scope, b"k", 1, constant(0, 1));
     expect(&rt, &env, &scope, b"k", 2, constant(0, 0));
@@ -109,8 +127,7 @@ fn open_flags_are_implied(rt: HostRuntime) -> Result<(), Fail> {
 #[test]
 fn a_flag_that_is_opened_again_is_another(rt: HostRuntime) -> Result<(), Fail> {
     let (env, mut scope) = book(&rt, rt.alloc())?;
-    scope.leave_to(1)?;
-    open(&rt, &mut scope, b"y")?;
+    reopen(&rt, &mut scope, 1, b"y")?;
     expect(&rt, &env, &scope, b"k", 1, constant(0, 1));
     expect(&rt, &env, &scope, b"k", 0, missing(1, 0));
     Ok(())
@@ -119,9 +136,9 @@ fn a_flag_that_is_opened_again_is_another(rt: HostRuntime) -> Result<(), Fail> {
 #[test]
 fn flags_behind_the_open_ones_are_counted(rt: HostRuntime) -> Result<(), Fail> {
     let (_, mut scope) = book(&rt, rt.alloc())?;
-    assert_eq!(rt; scope.further(0), None);
+    expect_further(&rt, &scope, None);
     scope.leave_to(1)?;
-    assert_eq!(rt; scope.further(0), Some(1));
+    expect_further(&rt, &scope, Some(1));
     Ok(())
 }
 
@@ -146,7 +163,7 @@ fn the_innermost_binder_is_found(rt: HostRuntime) -> Result<(), Fail> {
     scope.bind(Some(b"x"))?;
     scope.bind(Some(b"x"))?;
     scope.bind(None)?;
-    assert_eq!(rt; scope.variable_count(), 3);
+    expect_variables(&rt, &scope, 3);
     expect(&rt, &env, &scope, b"x", 0, Ok(Found::Var(1)));
     scope.unbind();
     scope.unbind();
@@ -154,12 +171,16 @@ fn the_innermost_binder_is_found(rt: HostRuntime) -> Result<(), Fail> {
     Ok(())
 }
 
-#[test]
-fn flags_are_opened_and_closed(rt: HostRuntime) -> Result<(), Fail> {
-    let (_, mut scope) = book(&rt, rt.alloc())?;
+fn expect_flags(rt: &impl Abort, scope: &Scope) {
     assert_eq!(rt; scope.flag_fault(b"x"), Some(ScopeFault::FlagTaken));
     assert_eq!(rt; scope.depth(), 2);
     assert_eq!(rt; scope.flag_name(0), b"x".as_slice());
+}
+
+#[test]
+fn flags_are_opened_and_closed(rt: HostRuntime) -> Result<(), Fail> {
+    let (_, mut scope) = book(&rt, rt.alloc())?;
+    expect_flags(&rt, &scope);
     let great = ScopeFault::DepthTooGreat { bars: 3, flags: 2 };
     assert_eq!(rt; scope.leave_to(3), Err(great));
     Ok(())
