@@ -143,16 +143,50 @@ fn flags_behind_the_open_ones_are_counted(rt: HostRuntime) -> Result<(), Fail> {
 }
 
 // An entry x, then a flag x, then a binder x and one without a name.
+fn entry_then_flag(
+    rt: &impl Abort,
+    alloc: Global,
+    env: &mut Env,
+    scope: &mut Scope,
+) -> Result<(), Fail>
+    requires few { length env.old < 100 }
+    requires noted { length scope.old.marks ≡ length env.old }
+    requires number { scope.old.opened < 100 }
+{
+    make(alloc, env, scope, b"x")?;
+    expect(rt, env, scope, b"x", 0, constant(0, 0));
+    open(rt, scope, b"x")?;
+    expect_flag(rt, env, scope);
+    Ok(())
+}
+
+// The flag x, no constant, and no y.
+fn expect_flag(rt: &impl Abort, env: &Env, scope: &Scope)
+    requires { length scope.now.marks ≡ length env.now }
+{
+    expect(rt, env, scope, b"x", 0, Ok(Found::Var(0)));
+    expect(rt, env, scope, b"x", 1, Err(ScopeFault::NotAConstant));
+    expect(rt, env, scope, b"y", 0, Err(ScopeFault::Unknown));
+}
+
 #[test]
 fn binders_come_before_flags_before_entries(rt: HostRuntime) -> Result<(), Fail> {
     let mut env = Env::new(rt.alloc());
     let mut scope = Scope::new(rt.alloc());
-    make(rt.alloc(), &mut env, &mut scope, b"x")?;
-    expect(&rt, &env, &scope, b"x", 0, constant(0, 0));
-    open(&rt, &mut scope, b"x")?;
-    expect(&rt, &env, &scope, b"x", 0, Ok(Found::Var(0)));
-    expect(&rt, &env, &scope, b"x", 1, Err(ScopeFault::NotAConstant));
-    expect(&rt, &env, &scope, b"y", 0, Err(ScopeFault::Unknown));
+    entry_then_flag(&rt, rt.alloc(), &mut env, &mut scope)
+}
+
+fn bind_and_unbind(rt: &impl Abort, env: &Env, scope: &mut Scope) -> Result<(), Fail>
+    requires { length scope.old.marks ≡ length env.now }
+{
+    scope.bind(Some(b"x"))?;
+    scope.bind(Some(b"x"))?;
+    scope.bind(None)?;
+    expect_variables(rt, scope, 3);
+    expect(rt, env, scope, b"x", 0, Ok(Found::Var(1)));
+    scope.unbind();
+    scope.unbind();
+    expect(rt, env, scope, b"x", 0, Ok(Found::Var(0)));
     Ok(())
 }
 
@@ -160,15 +194,7 @@ fn binders_come_before_flags_before_entries(rt: HostRuntime) -> Result<(), Fail>
 fn the_innermost_binder_is_found(rt: HostRuntime) -> Result<(), Fail> {
     let env = Env::new(rt.alloc());
     let mut scope = Scope::new(rt.alloc());
-    scope.bind(Some(b"x"))?;
-    scope.bind(Some(b"x"))?;
-    scope.bind(None)?;
-    expect_variables(&rt, &scope, 3);
-    expect(&rt, &env, &scope, b"x", 0, Ok(Found::Var(1)));
-    scope.unbind();
-    scope.unbind();
-    expect(&rt, &env, &scope, b"x", 0, Ok(Found::Var(0)));
-    Ok(())
+    bind_and_unbind(&rt, &env, &mut scope)
 }
 
 fn expect_flags(rt: &impl Abort, scope: &Scope) {
