@@ -1,11 +1,10 @@
 //! Small trees, with answers worked out by hand.
 use crate::{Bank, Node, TermFault, Terms};
+use std::process::Abort;
 use std::test::Fail;
 
 // With `*` and `3` for its two variables `1 0` is `* 3`, and the free `2` is `0`.
-#[test]
-fn instantiates_in_order(rt: HostRuntime) -> Result<(), Fail> {
-    let mut bank = Bank::new(rt.alloc());
+fn instantiate_in_order(rt: &impl Abort, bank: &mut Bank) -> Result<(), Fail> {
     let outer = bank.add(Node::Var(1))?;
     let inner = bank.add(Node::Var(0))?;
     let body = bank.add(Node::App(outer, inner))?;
@@ -20,10 +19,13 @@ fn instantiates_in_order(rt: HostRuntime) -> Result<(), Fail> {
     Ok(())
 }
 
-// With the list of `*` alone `0` is `*`.
 #[test]
-fn instantiates_by_a_list(rt: HostRuntime) -> Result<(), Fail> {
-    let mut bank = Bank::new(rt.alloc());
+fn instantiates_in_order(rt: HostRuntime) -> Result<(), Fail> {
+    instantiate_in_order(&rt, &mut Bank::new(rt.alloc()))
+}
+
+// With the list of `*` alone `0` is `*`.
+fn instantiate_by_a_list(rt: &impl Abort, bank: &mut Bank) -> Result<(), Fail> {
     let body = bank.add(Node::Var(0))?;
     let star = bank.add(Node::Star)?;
     let none = bank.add(Node::Nil)?;
@@ -33,10 +35,13 @@ fn instantiates_by_a_list(rt: HostRuntime) -> Result<(), Fail> {
     Ok(())
 }
 
-// Under a binder the argument is lifted: with `4` for `0` the term `fun 0, 1` is `fun 4, 5`.
 #[test]
-fn instantiates_under_a_binder(rt: HostRuntime) -> Result<(), Fail> {
-    let mut bank = Bank::new(rt.alloc());
+fn instantiates_by_a_list(rt: HostRuntime) -> Result<(), Fail> {
+    instantiate_by_a_list(&rt, &mut Bank::new(rt.alloc()))
+}
+
+// Under a binder the argument is lifted: with `4` for `0` the term `fun 0, 1` is `fun 4, 5`.
+fn instantiate_under_a_binder(rt: &impl Abort, bank: &mut Bank) -> Result<(), Fail> {
     let outer = bank.add(Node::Var(0))?;
     let inner = bank.add(Node::Var(1))?;
     let body = bank.add(Node::Lam(outer, inner))?;
@@ -48,10 +53,13 @@ fn instantiates_under_a_binder(rt: HostRuntime) -> Result<(), Fail> {
     Ok(())
 }
 
-// `all 0, 0 1` by two is `all 2, 0 3`.
 #[test]
-fn lifts_under_a_binder(rt: HostRuntime) -> Result<(), Fail> {
-    let mut bank = Bank::new(rt.alloc());
+fn instantiates_under_a_binder(rt: HostRuntime) -> Result<(), Fail> {
+    instantiate_under_a_binder(&rt, &mut Bank::new(rt.alloc()))
+}
+
+// `all 0, 0 1` by two is `all 2, 0 3`.
+fn lift_under_a_binder(rt: &impl Abort, bank: &mut Bank) -> Result<(), Fail> {
     let bound = bank.add(Node::Var(0))?;
     let free = bank.add(Node::Var(1))?;
     let pair = bank.add(Node::App(bound, free))?;
@@ -63,6 +71,11 @@ fn lifts_under_a_binder(rt: HostRuntime) -> Result<(), Fail> {
     let wanted = bank.add(Node::Pi(domain, pair))?;
     assert!(rt; bank.same(found, wanted));
     Ok(())
+}
+
+#[test]
+fn lifts_under_a_binder(rt: HostRuntime) -> Result<(), Fail> {
+    lift_under_a_binder(&rt, &mut Bank::new(rt.alloc()))
 }
 
 #[test]
@@ -79,9 +92,7 @@ fn keeps_the_limits(rt: HostRuntime) -> Result<(), Fail> {
     Ok(())
 }
 
-#[test]
-fn compares_trees(rt: HostRuntime) -> Result<(), Fail> {
-    let mut bank = Bank::new(rt.alloc());
+fn compare_trees(rt: &impl Abort, bank: &mut Bank) -> Result<(), Fail> {
     let star = bank.add(Node::Star)?;
     let none = bank.add(Node::Nil)?;
     let one = bank.add(Node::Cons(star, none))?;
@@ -94,6 +105,11 @@ fn compares_trees(rt: HostRuntime) -> Result<(), Fail> {
     assert!(rt; !bank.same(first, without));
     assert_eq!(rt; bank.len(), 7);
     Ok(())
+}
+
+#[test]
+fn compares_trees(rt: HostRuntime) -> Result<(), Fail> {
+    compare_trees(&rt, &mut Bank::new(rt.alloc()))
 }
 
 #[test]
