@@ -73,9 +73,6 @@ pub record AreFirst (items : List Item) (us : Trees) (rest : TermId) (lists : Li
   pub all : length lists + count (list_at items rest) ≡ count us
   pub each : (i : ℕ) (d : TermId) → i < length lists → IsListAt items (get_or lists i d) × (list_at items (get_or lists i d) ≡ without i us)
 
-pub first_none : (items : List Item) (us : TermId) → IsListAt items us → AreFirst items (list_at items us) us []
-first_none items us at = record { next = at; is = refl; all = omega arith; each = λ i d below. absurd (omega (arith, below)) }
-
 pub first_more : (items : List Item) (us : Trees) (rest u before : TermId) (lists : List TermId) → AreFirst items us rest lists
     → Many (list_at items before ▸ tree_at items u) ≡ item_at items rest → IsListAt items before → AreFirst items us before (lists ++ rest ∷ [])
 first_more items us rest u before lists h node at =
