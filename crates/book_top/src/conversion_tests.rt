@@ -2,207 +2,225 @@
 //! by hand from the rules and the order of comparison.
 
 use crate::run;
-use crate::tests::{check, desk_with};
+use crate::test_runs::{check, check_budgets, check_each, check_within};
 use std::alloc::Global;
 use std::process::Abort;
 use std::test::Fail;
 
 #[test]
-fn converted_types(rt: HostRuntime) -> Result<(), Fail> {
-    for (book, report) in [
-        // `d` is unfolded. The stated type isn't typed again.
-        (
-            "A := prim : *\na := prim : A\nd := A : *\nb := a : d",
-            "done: 4 items, 4 entries, 1 steps\n",
-        ),
-        // The later constant is unfolded, and then both are `S`, on whichever side it stands.
-        (
-            "A := prim : *\nS := A : *\nT := S : *\nx := prim : S\ny := x : T",
-            "done: 5 items, 5 entries, 1 steps\n",
-        ),
-        (
-            "A := prim : *\nS := A : *\nT := S : *\nx := prim : T\ny := x : S",
-            "done: 5 items, 5 entries, 1 steps\n",
-        ),
-        // First `T` and then `S`.
-        (
-            "A := prim : *\nS := A : *\nT := A : *\nx := prim : S\ny := x : T",
-            "done: 5 items, 5 entries, 2 steps\n",
-        ),
-        // One beta step.
-        (
-            "A := prim : *\nx := prim : A\ny := x : (fun X : * . X) A",
-            "done: 3 items, 3 entries, 1 steps\n",
-        ),
-        // `I A` and `A`: an unfolding, and a beta step.
-        (
-            "A := prim : *\nI := fun X : * . X : * -> *\nx := prim : I A\ny := x : A",
-            "done: 4 items, 4 entries, 2 steps\n",
-        ),
-        // The domains are found the same by one step. Then they are a known pair, and so are the ranges.
-        (
-            "A := prim : *\nS := A : *\nf := prim : S -> S\ng := f : A -> A",
-            "done: 4 items, 4 entries, 1 steps\n",
-        ),
-        // Under the flags: `T a(y, x)` and `T y`, where `a(y, x)` unfolds to `y`.
-        (
-            "A := prim : *\nT := prim : A -> *\n[x : A]\n| [y : A]\n| | a := x : A\n| | [t : T y]\n| | | c := t : T a(y, x)",
-            "done: 7 items, 4 entries, 1 steps\n",
-        ),
-    ] {
-        check(&rt, rt.alloc(), book.as_bytes(), 0, report)?;
-    }
-    Ok(())
+fn unfolded_types(rt: HostRuntime) -> Result<(), Fail> {
+    check_each(
+        &rt,
+        rt.alloc(),
+        0,
+        &[
+            // `d` is unfolded. The stated type isn't typed again.
+            (
+                "A := prim : *\na := prim : A\nd := A : *\nb := a : d",
+                "done: 4 items, 4 entries, 1 steps\n",
+            ),
+            // The later constant is unfolded, and then both are `S`, on whichever side it stands.
+            (
+                "A := prim : *\nS := A : *\nT := S : *\nx := prim : S\ny := x : T",
+                "done: 5 items, 5 entries, 1 steps\n",
+            ),
+            (
+                "A := prim : *\nS := A : *\nT := S : *\nx := prim : T\ny := x : S",
+                "done: 5 items, 5 entries, 1 steps\n",
+            ),
+            // First `T` and then `S`.
+            (
+                "A := prim : *\nS := A : *\nT := A : *\nx := prim : S\ny := x : T",
+                "done: 5 items, 5 entries, 2 steps\n",
+            ),
+        ],
+    )
+}
+
+// Beta steps, and parts that are the same by steps.
+#[test]
+fn converted_parts(rt: HostRuntime) -> Result<(), Fail> {
+    check_each(
+        &rt,
+        rt.alloc(),
+        0,
+        &[
+            // One beta step.
+            (
+                "A := prim : *\nx := prim : A\ny := x : (fun X : * . X) A",
+                "done: 3 items, 3 entries, 1 steps\n",
+            ),
+            // `I A` and `A`: an unfolding, and a beta step.
+            (
+                "A := prim : *\nI := fun X : * . X : * -> *\nx := prim : I A\ny := x : A",
+                "done: 4 items, 4 entries, 2 steps\n",
+            ),
+            // The domains are found the same by one step. Then they are a known pair, and so are the ranges.
+            (
+                "A := prim : *\nS := A : *\nf := prim : S -> S\ng := f : A -> A",
+                "done: 4 items, 4 entries, 1 steps\n",
+            ),
+            // Under the flags: `T a(y, x)` and `T y`, where `a(y, x)` unfolds to `y`.
+            (
+                "A := prim : *\nT := prim : A -> *\n[x : A]\n| [y : A]\n| | a := x : A\n| | [t : T y]\n| | | c := t : T a(y, x)",
+                "done: 7 items, 4 entries, 1 steps\n",
+            ),
+        ],
+    )
 }
 
 // Both types are instances of one entry.
 #[test]
 fn converted_instances(rt: HostRuntime) -> Result<(), Fail> {
-    for (book, report) in [
-        // The arguments are the same by one step, and so are the instances, of a primitive or not.
-        (
-            "A := prim : *\na := prim : A\nb := a : A\n[x : A]\n| T := prim : *\np := prim : T(a)\nq := p : T(b)",
-            "done: 7 items, 6 entries, 1 steps\n",
-        ),
-        (
-            "A := prim : *\na := prim : A\nb := a : A\n[x : A]\n| K := A : *\np := prim : K(a)\nq := p : K(b)",
-            "done: 7 items, 6 entries, 1 steps\n",
-        ),
-        // The arguments are apart, and both instances are unfolded.
-        (
-            "A := prim : *\na := prim : A\nb := prim : A\n[x : A]\n| K := A : *\np := prim : K(a)\nq := p : K(b)",
-            "done: 7 items, 6 entries, 2 steps\n",
-        ),
-    ] {
-        check(&rt, rt.alloc(), book.as_bytes(), 0, report)?;
-    }
-    Ok(())
+    check_each(
+        &rt,
+        rt.alloc(),
+        0,
+        &[
+            // The arguments are the same by one step, and so are the instances, of a primitive or not.
+            (
+                "A := prim : *\na := prim : A\nb := a : A\n[x : A]\n| T := prim : *\np := prim : T(a)\nq := p : T(b)",
+                "done: 7 items, 6 entries, 1 steps\n",
+            ),
+            (
+                "A := prim : *\na := prim : A\nb := a : A\n[x : A]\n| K := A : *\np := prim : K(a)\nq := p : K(b)",
+                "done: 7 items, 6 entries, 1 steps\n",
+            ),
+            // The arguments are apart, and both instances are unfolded.
+            (
+                "A := prim : *\na := prim : A\nb := prim : A\n[x : A]\n| K := A : *\np := prim : K(a)\nq := p : K(b)",
+                "done: 7 items, 6 entries, 2 steps\n",
+            ),
+        ],
+    )
 }
 
 // The type of an argument is led to the one that is wanted, which is typed again.
 #[test]
 fn converted_arguments(rt: HostRuntime) -> Result<(), Fail> {
-    for (book, report) in [
-        (
-            "A := prim : *\nS := A : *\ns := prim : S\nf := prim : A -> A\nd := f s : A",
-            "done: 5 items, 5 entries, 2 steps\n",
-        ),
-        (
-            "A := prim : *\nS := A : *\ns := prim : S\n[x : A]\n| c := x : A\nd := c(s) : A",
-            "done: 6 items, 5 entries, 2 steps\n",
-        ),
-        // `p` takes two steps for its argument, and `q` one for the domains of the two abstractions.
-        (
-            "A := prim : *\nS := A : *\nQ := prim : (A -> A) -> *\np := prim : Q (fun x : S . x)\nq := p : Q (fun x : A . x)",
-            "done: 5 items, 5 entries, 3 steps\n",
-        ),
-    ] {
-        check(&rt, rt.alloc(), book.as_bytes(), 0, report)?;
-    }
-    Ok(())
+    check_each(
+        &rt,
+        rt.alloc(),
+        0,
+        &[
+            (
+                "A := prim : *\nS := A : *\ns := prim : S\nf := prim : A -> A\nd := f s : A",
+                "done: 5 items, 5 entries, 2 steps\n",
+            ),
+            (
+                "A := prim : *\nS := A : *\ns := prim : S\n[x : A]\n| c := x : A\nd := c(s) : A",
+                "done: 6 items, 5 entries, 2 steps\n",
+            ),
+            // `p` takes two steps for its argument, and `q` one for the domains of the two abstractions.
+            (
+                "A := prim : *\nS := A : *\nQ := prim : (A -> A) -> *\np := prim : Q (fun x : S . x)\nq := p : Q (fun x : A . x)",
+                "done: 5 items, 5 entries, 3 steps\n",
+            ),
+        ],
+    )
 }
 
 #[test]
 fn unfolded_and_apart(rt: HostRuntime) -> Result<(), Fail> {
-    for (book, report) in [
-        // `T` and `S` lead to two primitives.
-        (
-            "A := prim : *\nB := prim : *\nS := A : *\nT := B : *\nx := prim : S\ny := x : T",
-            "6:1: rule def 2 at body\n",
-        ),
-        // So does a part of two products.
-        (
-            "A := prim : *\nB := prim : *\nS := A : *\nf := prim : A -> S\ng := f : A -> B",
-            "5:1: rule def 2 at body\n",
-        ),
-        // `S` leads to another type than the function's domain.
-        (
-            "A := prim : *\nB := prim : *\nS := B : *\ns := prim : S\nf := prim : A -> A\nd := f s : A",
-            "6:1: rule appl 2 at body.arg\n",
-        ),
-        (
-            "A := prim : *\nB := prim : *\nS := B : *\ns := prim : S\n[x : A]\n| c := x : A\nd := c(s) : A",
-            "7:1: rule inst 1 at body.1\n",
-        ),
-        (
-            "A := prim : *\nB := prim : *\nS := B : *\ns := prim : S\n[x : A]\n| c := prim : *\nd := prim : c(s)",
-            "7:1: rule inst-prim 1 at type.1\n",
-        ),
-    ] {
-        check(&rt, rt.alloc(), book.as_bytes(), 3, report)?;
-    }
-    Ok(())
+    check_each(
+        &rt,
+        rt.alloc(),
+        3,
+        &[
+            // `T` and `S` lead to two primitives.
+            (
+                "A := prim : *\nB := prim : *\nS := A : *\nT := B : *\nx := prim : S\ny := x : T",
+                "6:1: rule def 2 at body\n",
+            ),
+            // So does a part of two products.
+            (
+                "A := prim : *\nB := prim : *\nS := A : *\nf := prim : A -> S\ng := f : A -> B",
+                "5:1: rule def 2 at body\n",
+            ),
+            // `S` leads to another type than the function's domain.
+            (
+                "A := prim : *\nB := prim : *\nS := B : *\ns := prim : S\nf := prim : A -> A\nd := f s : A",
+                "6:1: rule appl 2 at body.arg\n",
+            ),
+            (
+                "A := prim : *\nB := prim : *\nS := B : *\ns := prim : S\n[x : A]\n| c := x : A\nd := c(s) : A",
+                "7:1: rule inst 1 at body.1\n",
+            ),
+            (
+                "A := prim : *\nB := prim : *\nS := B : *\ns := prim : S\n[x : A]\n| c := prim : *\nd := prim : c(s)",
+                "7:1: rule inst-prim 1 at type.1\n",
+            ),
+        ],
+    )
 }
 
 #[test]
-fn apart_at_once(rt: HostRuntime) -> Result<(), Fail> {
-    for (book, report) in [
-        (
-            "P := prim : *\nQ := prim : *\np := prim : P\nq := prim : Q -> Q\nr := q p : Q",
-            "5:1: rule appl 2 at body.arg\n",
-        ),
-        (
-            "P := prim : *\nQ := prim : *\np := prim : P\nq := prim : Q -> Q\nr := p p : Q",
-            "5:1: rule appl 1 at body.fun\n",
-        ),
-        (
-            "A := prim : *\nB := prim : *\nf := prim : A -> A\n[b : B]\n| g := fun y : A . f (f b) : A -> A",
-            "5:3: rule appl 2 at body.body.arg.arg\n",
-        ),
-        // Two instances of a primitive whose arguments are apart, and a variable applied to two flags.
-        (
-            "A := prim : *\na := prim : A\nb := prim : A\n[x : A]\n| T := prim : *\np := prim : T(a)\nq := p : T(b)",
-            "7:1: rule def 2 at body\n",
-        ),
-        (
-            "[P : * -> *]\n| [A : *]\n| | [B : *]\n| | | [p : P A]\n| | | | q := p : P B",
-            "5:9: rule def 2 at body\n",
-        ),
-        // A flag, and a flag applied to it.
-        (
-            "[P : * -> *]\n| [Q : *]\n| | [q : Q]\n| | | p := q : P Q",
-            "4:7: rule def 2 at body\n",
-        ),
-        // A function isn't compared with the abstraction that applies it.
-        (
-            "A := prim : *\nf := prim : A -> A\nQ := prim : (A -> A) -> *\np := prim : Q f\nq := p : Q (fun x : A . f x)",
-            "5:1: rule def 2 at body\n",
-        ),
-    ] {
-        check(&rt, rt.alloc(), book.as_bytes(), 3, report)?;
-    }
-    Ok(())
+fn arguments_apart_at_once(rt: HostRuntime) -> Result<(), Fail> {
+    check_each(
+        &rt,
+        rt.alloc(),
+        3,
+        &[
+            (
+                "P := prim : *\nQ := prim : *\np := prim : P\nq := prim : Q -> Q\nr := q p : Q",
+                "5:1: rule appl 2 at body.arg\n",
+            ),
+            (
+                "P := prim : *\nQ := prim : *\np := prim : P\nq := prim : Q -> Q\nr := p p : Q",
+                "5:1: rule appl 1 at body.fun\n",
+            ),
+            (
+                "A := prim : *\nB := prim : *\nf := prim : A -> A\n[b : B]\n| g := fun y : A . f (f b) : A -> A",
+                "5:3: rule appl 2 at body.body.arg.arg\n",
+            ),
+        ],
+    )
 }
 
-// Checks the book within a budget, and compares the status and what is said.
-fn check_within(
-    rt: &impl Abort,
-    alloc: Global,
-    book: &[u8],
-    budget: &'static str,
-    code: u8,
-    report: &str,
-) -> Result<(), Fail> {
-    let mut desk = desk_with(alloc, book, &[])?;
-    let words = ["check", "book", "out", "--budget", budget];
-    let status = run(alloc, &words, &mut desk);
-    assert_eq!(rt; status.code(), code, "{status:?}");
-    assert_eq!(rt; desk.said(), report.as_bytes());
-    Ok(())
+#[test]
+fn bodies_apart_at_once(rt: HostRuntime) -> Result<(), Fail> {
+    check_each(
+        &rt,
+        rt.alloc(),
+        3,
+        &[
+            // Two instances of a primitive whose arguments are apart, and a variable applied to two flags.
+            (
+                "A := prim : *\na := prim : A\nb := prim : A\n[x : A]\n| T := prim : *\np := prim : T(a)\nq := p : T(b)",
+                "7:1: rule def 2 at body\n",
+            ),
+            (
+                "[P : * -> *]\n| [A : *]\n| | [B : *]\n| | | [p : P A]\n| | | | q := p : P B",
+                "5:9: rule def 2 at body\n",
+            ),
+            // A flag, and a flag applied to it.
+            (
+                "[P : * -> *]\n| [Q : *]\n| | [q : Q]\n| | | p := q : P Q",
+                "4:7: rule def 2 at body\n",
+            ),
+            // A function isn't compared with the abstraction that applies it.
+            (
+                "A := prim : *\nf := prim : A -> A\nQ := prim : (A -> A) -> *\np := prim : Q f\nq := p : Q (fun x : A . f x)",
+                "5:1: rule def 2 at body\n",
+            ),
+        ],
+    )
 }
 
 // A refusal is told only where the steps up to it are within the budget.
 #[test]
 fn budgets_of_refusals(rt: HostRuntime) -> Result<(), Fail> {
     let book = b"A := prim : *\nB := prim : *\nS := A : *\nT := B : *\nx := prim : S\ny := x : T";
-    for (budget, code, report) in [
-        ("0", 4, "6:1: budget: steps\n"),
-        ("1", 4, "6:1: budget: steps\n"),
-        ("2", 3, "6:1: rule def 2 at body\n"),
-    ] {
-        check_within(&rt, rt.alloc(), book, budget, code, report)?;
-    }
-    Ok(())
+    check_budgets(
+        &rt,
+        rt.alloc(),
+        book,
+        &[
+            ("0", 4, "6:1: budget: steps\n"),
+            ("1", 4, "6:1: budget: steps\n"),
+            ("2", 3, "6:1: rule def 2 at body\n"),
+        ],
+    )
 }
 
 // Adds the next level of a tower to a book: the functions over the level below.
@@ -236,28 +254,38 @@ fn two_towers(alloc: Global, levels: u32) -> Result<Vec<u8>, Fail> {
 #[test]
 fn tops_of_two_towers(rt: HostRuntime) -> Result<(), Fail> {
     let book = two_towers(rt.alloc(), 60)?;
-    for (budget, code, report) in [
-        ("120", 4, "124:1: budget: steps\n"),
-        ("121", 4, "124:1: budget: steps\n"),
-        ("122", 0, "done: 124 items, 124 entries, 122 steps\n"),
-        ("123", 0, "done: 124 items, 124 entries, 122 steps\n"),
-    ] {
-        check_within(&rt, rt.alloc(), &book, budget, code, report)?;
-    }
+    check_budgets(
+        &rt,
+        rt.alloc(),
+        &book,
+        &[
+            ("120", 4, "124:1: budget: steps\n"),
+            ("121", 4, "124:1: budget: steps\n"),
+            ("122", 0, "done: 124 items, 124 entries, 122 steps\n"),
+            ("123", 0, "done: 124 items, 124 entries, 122 steps\n"),
+        ],
+    )
+}
+
+// Checks two towers of so many levels.
+fn check_towers(
+    rt: &impl Abort,
+    alloc: Global,
+    levels: u32,
+    code: u8,
+    report: &str,
+) -> Result<(), Fail> {
+    let book = two_towers(alloc, levels)?;
+    check(rt, alloc, &book, code, report)?;
     Ok(())
 }
 
 // The tops are parts of the two types that are compared, at nesting 2, and each level is nested in the one above.
 #[test]
 fn comparisons_nest_too_deep(rt: HostRuntime) -> Result<(), Fail> {
-    for (levels, code, report) in [
-        (998, 0, "done: 2000 items, 2000 entries, 1998 steps\n"),
-        (999, 4, "2002:1: budget: nesting\n"),
-    ] {
-        let book = two_towers(rt.alloc(), levels)?;
-        check(&rt, rt.alloc(), &book, code, report)?;
-    }
-    Ok(())
+    let done = "done: 2000 items, 2000 entries, 1998 steps\n";
+    check_towers(&rt, rt.alloc(), 998, 0, done)?;
+    check_towers(&rt, rt.alloc(), 999, 4, "2002:1: budget: nesting\n")
 }
 
 // Adds to a book what is said of a level of two towers: a variable of the first has the type of the second, and there is a

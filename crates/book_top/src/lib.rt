@@ -4,6 +4,8 @@
 mod build;
 mod check;
 #[cfg(test)]
+mod command_tests;
+#[cfg(test)]
 mod conversion_tests;
 mod fetch;
 mod item;
@@ -14,11 +16,15 @@ mod names;
 #[cfg(test)]
 mod parameter_tests;
 #[cfg(test)]
+mod path_tests;
+#[cfg(test)]
 mod refusal_tests;
 mod report;
 #[cfg(test)]
 mod rule_tests;
 mod status;
+#[cfg(test)]
+mod test_runs;
 #[cfg(test)]
 mod tests;
 mod top;
