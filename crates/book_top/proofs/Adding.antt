@@ -1,5 +1,5 @@
 -- What an item adds, and what its judging costs.
-use Rattle.std.proofs.Common.{◌≡◌, ◌<◌, ◌≤◌, ◌+◌, ℕ, List, [], ◌∷◌, ◌++◌, length, map, Ok, Err, sym, ap, subst, ◌∙◌, arith, ⊎_elim}
+use Rattle.std.proofs.Common.{◌≡◌, ◌<◌, ◌≤◌, ◌+◌, ℕ, List, [], ◌∷◌, ◌++◌, length, map, Result, Ok, Err, IsErrAnd, OnOk, sym, ap, subst, ◌∙◌, arith, ⊎_elim}
 use Rattle.std.proofs.lemmas.Bool.{cases_lt}
 use Rattle.std.proofs.lemmas.List.{get_or_append_left, length_push, length-map, length-reverse}
 use Rattle.std.proofs.Math.Seq.{get_or-append_seam}
@@ -22,14 +22,17 @@ use Rattle.fb_scope.specs.State.{State, numbers, entered, noted}
 use Rattle.fb_scope.specs.Resolve.{made_under}
 use Rattle.book_top.specs.Book.{Book, Reading, Flag, book_of, with_entry}
 use Rattle.ld_terms.specs.declared.bank.TermId.{TermId}
+use Rattle.ld_terms.specs.declared.bank.TermFault.{TermFault}
+use Rattle.ld_terms.specs.declared.bank.TermFault.TheVariants as term
 use Rattle.fb_parse.specs.Grammar.{Surface}
 use Rattle.book_top.specs.Book.{names_of}
 use Rattle.book_top.specs.Names.{tree_of}
-use Rattle.book_top.specs.Built.{read, Builds}
+use Rattle.book_top.specs.Built.{read, Builds, BuildsItem}
 use Rattle.book_top.proofs.Continuing.{tree_moved}
 use Rattle.book_top.specs.Verdict.{IsSmallReading, judging}
 use Rattle.book_top.specs.Judged.{IsInStep}
-use Rattle.book_top.specs.Told.{Costs, StopsReading, IsJudged, judge_stop}
+use Rattle.book_top.specs.declared.item.ItemStop.{ItemStop}
+use Rattle.book_top.specs.Told.{Costs, StopsReading, IsJudged, JudgesReading, judge_stop, term_stop}
 
 -- what is said of an environment, a context and trees is said of the same
 pub same_task : (P : Env → Trees → Tree → Type 0) (e e' : Env) (c c' : Trees) (t t' : Tree) → e ≡ e' → c ≡ c' → t ≡ t' → P e c t → P e' c' t'
@@ -59,6 +62,23 @@ judging_stops X Taken Adds budget b items at r before after (fault.Stop check.Sp
 judging_stops X Taken Adds budget b items at r before after (fault.Stop check.High) small is free h = (small, (after.spent, costs_of (judging b r) budget _ before after is h))
 judging_stops X Taken Adds budget b items at r before after (fault.Stop check.Nested) small is free h = (small, (after.spent, costs_of (judging b r) budget _ before after is h))
 judging_stops X Taken Adds budget b items at r before after (fault.Stop check.Memory) small is free h = tt
+
+-- a part of a reading can't be built
+pub unbuilt_stops : (budget : ℕ) (old new : Standing) (s after : State) (name : List ℕ) (r : Reading) (part : Item) (f : TermFault) (q : Result ℕ ItemStop)
+    → BuildsItem new.items part (Err f) → (IsSmallReading r → IsSmall part) → IsErrAnd q (λ z. z ≡ term_stop f) → JudgesReading budget old new s after name r q
+unbuilt_stops budget old new s after name r part f (Ok n) b small h = absurd h
+unbuilt_stops budget old new s after name r part f (Err z) b small h =
+    let P : ItemStop → Type 0 = λ y. StopsReading budget (book_of old s) new.items r y in
+    subst P (sym h) (stops f b)
+  where
+    stops : (f : TermFault) → BuildsItem new.items part (Err f) → StopsReading budget (book_of old s) new.items r (term_stop f)
+    stops term.High b = λ t. b (small t)
+    stops term.Memory b = tt
+
+-- nothing is said of what is done where an item is stopped
+pub on_no_stop : (A : Type 0) (f : ItemStop) (q : Result ℕ ItemStop) → IsErrAnd q (λ z. z ≡ f) → OnOk q A
+on_no_stop A f (Ok n) h = absurd h
+on_no_stop A f (Err z) h = tt
 
 abbrev made : Env → Trees → State → Book
 made e c s = record { env = e; context = c; scope = s }

@@ -11,10 +11,12 @@ use Rattle.book_top.specs.declared.item.ItemStop.{ItemStop}
 use Rattle.book_top.specs.Book.{names_of, book_of, Flag}
 use Rattle.book_top.specs.Names.{tree_of}
 use Rattle.book_top.specs.Built.{read}
-use Rattle.book_top.specs.Told.{StopsReading}
-use Rattle.book_top.proofs.Continuing.{stands_tree}
+use Rattle.book_top.specs.Told.{StopsReading, term_stop}
+use Rattle.ld_terms.specs.Item.{One}
+use Rattle.book_top.specs.Judged.{IsInStep}
+use Rattle.book_top.proofs.Continuing.{stands_tree, goes_on}
 use Rattle.book_top.proofs.Formed.{readable}
-use Rattle.book_top.proofs.Adding.{same_task, judging_stops, flag_judged_so}
+use Rattle.book_top.proofs.Adding.{same_task, judging_stops, flag_judged_so, unbuilt_stops, on_no_stop}
 use Rattle.book_top.proofs.item.judge_flag.Goals as goal
 
 pub open_flag-requires-clause-of : goal.open_flag-requires-clause-of
@@ -50,3 +52,33 @@ returns-clause-answer c =
 
 pub open_flag-requires-clause-pairs : goal.open_flag-requires-clause-pairs
 open_flag-requires-clause-pairs c = pairs_none c.build.new.theory c.new-job.result.known c.new-job.ensures.known
+
+pub returns-in_err-of-clause-answer : goal.returns-in_err-of-clause-answer
+returns-in_err-of-clause-answer c =
+    let t = read (tree_of c.args.scope.now (names_of (env c.args.theory.now)) (view c.args.of)) in
+    unbuilt_stops c.args.budget c.args.theory.now c.build.new.theory c.args.scope.now c.build.new.scope c.args.name.now (Flag t) (One t) c.in_err-of.field-0.0 c.from_residual.result
+    c.in_err-of.ensures.built (λ h. h) c.from_residual.ensures.1
+
+pub returns-in_err-of-clause-goes : goal.returns-in_err-of-clause-goes
+returns-in_err-of-clause-goes c = record { items = c.build.ensures.continues.items; kept = c.build.ensures.continues.kept }
+
+pub returns-in_err-of-clause-step : goal.returns-in_err-of-clause-step
+returns-in_err-of-clause-step c = on_no_stop (IsInStep c.build.new.theory c.build.new.scope) (term_stop c.in_err-of.field-0.0) c.from_residual.result c.from_residual.ensures.1
+
+pub returns-in-Ok-enter-clause-goes : goal.returns-in-Ok-enter-clause-goes
+returns-in-Ok-enter-clause-goes c = goes_on _ _ _ c.build.ensures.continues c.open_flag.ensures.goes
+
+pub returns-in-Ok-clause-answer : goal.returns-in-Ok-clause-answer
+returns-in-Ok-clause-answer c = tt
+
+pub returns-in-Ok-clause-goes : goal.returns-in-Ok-clause-goes
+returns-in-Ok-clause-goes c = goes_on _ _ _ c.build.ensures.continues c.open_flag.ensures.goes
+
+pub returns-in-Ok-clause-step : goal.returns-in-Ok-clause-step
+returns-in-Ok-clause-step c = tt
+
+pub returns-clause-goes : goal.returns-clause-goes
+returns-clause-goes c = goes_on _ _ _ c.build.ensures.continues c.open_flag.ensures.goes
+
+pub returns-clause-step : goal.returns-clause-step
+returns-clause-step c = tt

@@ -1,4 +1,4 @@
-use Rattle.std.proofs.Common.{ℕ, Err, Contains, refl, sym, ap, subst, ◌∙◌}
+use Rattle.std.proofs.Common.{◌≡◌, ℕ, Err, Contains, refl, sym, ap, subst, ◌∙◌}
 use Rattle.ld_terms.specs.Tree.{Tree, Trees}
 use Rattle.ld_terms.specs.Entry.{Env}
 use Rattle.ld_terms.specs.Bank.{tree_at}
@@ -14,11 +14,13 @@ use Rattle.book_top.specs.declared.item.ItemStop.{ItemStop}
 use Rattle.book_top.specs.Book.{names_of, book_of, Line}
 use Rattle.book_top.specs.Names.{tree_of}
 use Rattle.book_top.specs.Built.{read}
-use Rattle.book_top.specs.Told.{StopsReading}
+use Rattle.book_top.specs.Told.{StopsReading, term_stop}
+use Rattle.ld_terms.specs.Item.{One, IsSmall}
+use Rattle.book_top.specs.Judged.{IsInStep}
 use Rattle.ld_infer.proofs.Going.{continues_trans}
-use Rattle.book_top.proofs.Continuing.{stands_tree, stands_later, goes_on}
+use Rattle.book_top.proofs.Continuing.{stands_tree, stands_later, goes_on, tree_moved}
 use Rattle.book_top.proofs.Formed.{readable}
-use Rattle.book_top.proofs.Adding.{same_line, built_same, judging_stops, entry_judged_so, noted_step}
+use Rattle.book_top.proofs.Adding.{same_line, built_same, judging_stops, entry_judged_so, noted_step, unbuilt_stops, on_no_stop}
 use Rattle.book_top.proofs.item.judge_line.Goals as goal
 
 pub define-requires-clause-of : goal.define-requires-clause-of
@@ -101,3 +103,48 @@ returns-clause-answer c =
 
 pub define-requires-clause-pairs : goal.define-requires-clause-pairs
 define-requires-clause-pairs c = pairs_none c.build-2.new.theory c.new-job.result.known c.new-job.ensures.known
+
+pub returns-in_err-of-clause-answer : goal.returns-in_err-of-clause-answer
+returns-in_err-of-clause-answer c =
+    let m = read (tree_of c.args.scope.now (names_of (env c.args.theory.now)) (view c.args.body)) in
+    let t = read (tree_of c.args.scope.now (names_of (env c.args.theory.now)) (view c.args.of)) in
+    unbuilt_stops c.args.budget c.args.theory.now c.build.new.theory c.args.scope.now c.build.new.scope c.args.name.now (Line m t) (One t) c.in_err-of.field-0.0 c.from_residual.result
+    c.in_err-of.ensures.built (λ h. h.0) c.from_residual.ensures.1
+
+pub returns-in_err-of-clause-goes : goal.returns-in_err-of-clause-goes
+returns-in_err-of-clause-goes c = record { items = c.build.ensures.continues.items; kept = c.build.ensures.continues.kept }
+
+pub returns-in_err-of-clause-step : goal.returns-in_err-of-clause-step
+returns-in_err-of-clause-step c = on_no_stop (IsInStep c.build.new.theory c.build.new.scope) (term_stop c.in_err-of.field-0.0) c.from_residual.result c.from_residual.ensures.1
+
+pub returns-in-Ok-clause-answer : goal.returns-in-Ok-clause-answer
+returns-in-Ok-clause-answer c = tt
+
+pub returns-in-Ok-clause-goes : goal.returns-in-Ok-clause-goes
+returns-in-Ok-clause-goes c = goes_on _ _ _ (continues_trans _ _ _ c.build.ensures.continues c.build-2.ensures.continues) c.define.ensures.goes
+
+pub returns-in-Ok-clause-step : goal.returns-in-Ok-clause-step
+returns-in-Ok-clause-step c = tt
+
+pub returns-clause-step : goal.returns-clause-step
+returns-clause-step c = tt
+
+pub returns-in_err-body-clause-answer : goal.returns-in_err-body-clause-answer
+returns-in_err-body-clause-answer c =
+    let old = c.args.theory.now in
+    let s = c.args.scope.now in
+    let m = read (tree_of s (names_of (env old)) (view c.args.body)) in
+    let t = read (tree_of s (names_of (env old)) (view c.args.of)) in
+    let moved = read (tree_of c.build.new.scope (names_of (env c.build.new.theory)) (view c.args.body)) in
+    let same : m ≡ moved = ap read (tree_moved s c.build.new.scope (env old) (env c.build.new.theory) (view c.args.body) (sym c.in_ok-of.ensures.same) (sym c.build.ensures.continues.adds.env)) in
+    let Small : Tree → Type 0 = λ x. IsSmall (One x) in
+    unbuilt_stops c.args.budget old c.build-2.new.theory s c.build-2.new.scope c.args.name.now (Line m t) (One moved) c.in_err-body.field-0.0 c.from_residual-in_err-body.result
+    c.in_err-body.ensures.built (λ h. subst Small same h.1) c.from_residual-in_err-body.ensures.1
+
+pub returns-in_err-body-clause-goes : goal.returns-in_err-body-clause-goes
+returns-in_err-body-clause-goes c =
+    let on = continues_trans _ _ _ c.build.ensures.continues c.build-2.ensures.continues in
+    record { items = on.items; kept = on.kept }
+
+pub returns-in_err-body-clause-step : goal.returns-in_err-body-clause-step
+returns-in_err-body-clause-step c = on_no_stop (IsInStep c.build-2.new.theory c.build-2.new.scope) (term_stop c.in_err-body.field-0.0) c.from_residual-in_err-body.result c.from_residual-in_err-body.ensures.1
