@@ -135,6 +135,14 @@ checks_none budget before now out all theory scope writer told tells_said said s
       sound_stays = sound_stays;
     }
 
+-- no other file has changed, where only the target changes behind what is checked
+pub others_left : {budget : ℕ} {before now after : Seen} {out : List ℕ} {all : List SurfaceItem} {index : ℕ} {theory : Standing} {scope : State} {writer : Writer} {steps : ℕ}
+    → Checks budget before now out all index theory scope writer steps → OnlyTarget now after → IsTrue before.tells_files → OthersStay before after out
+others_left {before = before} {now} {after} h stays t name other =
+    let T : Bool → Type 0 = λ b. IsTrue b in
+    let Q : List ℕ → Type 0 = λ target. OthersStay now after target in
+    subst Q (h.target t) (stays.others (subst T (sym h.told) t)) name other ∙ h.others t name other
+
 pub checks_more : (budget : ℕ) (before now after : Seen) (out text : List ℕ) (items : List Item) (index : ℕ) (i : Item) (theory next : Standing) (scope later : State)
     (writer follow : Writer) (steps n : ℕ) → budget ≤ 1000000000
     → Checks budget before now out (items_view text items) index theory scope writer steps → index < length items → i ≡ get_or items index i
@@ -171,9 +179,7 @@ checks_more budget before now after out text items index i theory next scope lat
       entries = omega (arith, ap (λ (b : Book). length b.env) accepted.becomes, entries_after it r old, h.entries);
       opened = omega (arith, ap (λ (b : Book). b.scope.opened) accepted.becomes, opened_after it r old, h.opened);
       steps_few = omega (arith, h.steps_few, accepted.within, most);
-      others = λ t name other.
-          let Q : List ℕ → Type 0 = λ target. OthersStay now after target in
-          subst Q (h.target t) (stays.others (subst T (sym h.told) t)) name other ∙ h.others t name other;
+      others = others_left h stays;
       never_falls = omega (arith, h.never_falls, stays.never_falls);
       sound_stays = stays.sound ∙ h.sound_stays;
     }

@@ -271,3 +271,24 @@ list_on-loop-element-preserved t c =
       subst On (ap (λ x. vs ▸ read x) same ∙ sym stands)
           (lists_behind s names ts vs (read (tree_of s names (view a))) us l.element-index a c.loop-element-test.true c.element-item.is i.4 (ok_read (tree_of s names (view a)) ok)),
     )
+
+pub build-returns-in_err-range-in-Arrow-clause-continues : goal.build-returns-in_err-range-in-Arrow-clause-continues
+build-returns-in_err-range-in-Arrow-clause-continues t c = continues_trans _ _ _ c.build.ensures.continues c.build_under.ensures.continues
+
+pub build-returns-in_err-range-in-All-clause-continues : goal.build-returns-in_err-range-in-All-clause-continues
+build-returns-in_err-range-in-All-clause-continues t c = continues_trans _ _ _ c.build-in-All.ensures.continues c.build_under-in-All.ensures.continues
+
+pub build-returns-in_err-body-in-Fun-clause-continues : goal.build-returns-in_err-body-in-Fun-clause-continues
+build-returns-in_err-body-in-Fun-clause-continues t c = continues_trans _ _ _ c.build-in-Fun.ensures.continues c.build_under-in-Fun.ensures.continues
+
+pub build-returns-in_ok-function-in-Apply-clause-continues : goal.build-returns-in_ok-function-in-Apply-clause-continues
+build-returns-in_ok-function-in-Apply-clause-continues t c = continues_trans _ _ _ c.build-in-Apply.ensures.continues c.apply.ensures.continues
+
+pub apply_to-returns-clause-continues : goal.apply_to-returns-clause-continues
+apply_to-returns-clause-continues t c = continues_trans _ _ _ c.build.ensures.continues c.add.ensures.continues
+
+pub list_more-returns-clause-continues : goal.list_more-returns-clause-continues
+list_more-returns-clause-continues t c = continues_trans _ _ _ c.build.ensures.continues c.add.ensures.continues
+
+pub instance-returns-in_err-all-clause-continues : goal.instance-returns-in_err-all-clause-continues
+instance-returns-in_err-all-clause-continues t c = continues_trans _ _ _ c.implied_list.ensures.continues c.list_on.ensures.continues
