@@ -1,5 +1,6 @@
 //! Records of derivation files, worked out by hand.
 use crate::reader::{RecordFault, Records};
+use crate::rec::Rec;
 use std::test::Fail;
 
 // The header, `*`, `box`, `* : box` as a node, and the end.
@@ -23,17 +24,28 @@ fn read(bytes: &[u8]) -> (u32, Result<(), RecordFault>) {
     (6, Ok(()))
 }
 
+// The tag of the next record, its number in the fourth place, and whether it has no name.
+fn next_record(records: &mut Records<'_>) -> Result<Option<(u8, Option<u64>, bool)>, RecordFault> {
+    let Some(rec) = records.next()? else {
+        return Ok(None);
+    };
+    Ok(Some((rec.tag(), rec.number(3), rec.name().is_empty())))
+}
+
 #[test]
 fn reads_the_empty_book(rt: HostRuntime) -> Result<(), Fail> {
     let mut records = Records::new(&EMPTY)?;
-    for (tag, last) in [(0x01, None), (0x02, None), (0x30, Some(1)), (0x60, None)] {
-        let rec = records.next()?.expect(&rt, "a record");
-        assert_eq!(rt; rec.tag(), tag);
-        assert_eq!(rt; rec.number(3), last);
-        assert!(rt; rec.name().is_empty());
+    let wanted = [
+        Some((0x01, None, true)),
+        Some((0x02, None, true)),
+        Some((0x30, Some(1), true)),
+        Some((0x60, None, true)),
+        None,
+        None,
+    ];
+    for record in wanted {
+        assert_eq!(rt; next_record(&mut records), Ok(record));
     }
-    assert!(rt; records.next()?.is_none());
-    assert!(rt; records.next()?.is_none());
     Ok(())
 }
 
@@ -57,25 +69,43 @@ fn tells_where_a_file_is_cut(rt: HostRuntime) -> Result<(), Fail> {
     Ok(())
 }
 
-// An instance, an entry and a variable.
+// The header, an instance, an entry and a variable.
+const MIXED: [u8; 30] = [
+    0x4c, 0x44, 0x44, 0x45, 0x52, 0x49, 0x56, 0x31, 0x07, 0xac, 0x02, 2, 0, 0x7f, 0x40, 2, b'a',
+    0xff, 5, 0x03, 0xff, 0xff, 0xff, 0xff, 0xff, 0xff, 0xff, 0xff, 0xff, 1,
+];
+
+// The record behind so many others.
+fn record_behind(bytes: &[u8], others: usize) -> Result<Option<Rec<'_>>, RecordFault> {
+    let mut records = Records::new(bytes)?;
+    for _ in 0..others {
+        records.next()?;
+    }
+    records.next()
+}
+
 #[test]
-fn reads_numbers_and_names(rt: HostRuntime) -> Result<(), Fail> {
-    let bytes = [
-        0x4c, 0x44, 0x44, 0x45, 0x52, 0x49, 0x56, 0x31, 0x07, 0xac, 0x02, 2, 0, 0x7f, 0x40, 2,
-        b'a', 0xff, 5, 0x03, 0xff, 0xff, 0xff, 0xff, 0xff, 0xff, 0xff, 0xff, 0xff, 1,
-    ];
-    let mut records = Records::new(&bytes)?;
-    let instance = records.next()?.expect(&rt, "an instance");
+fn reads_the_numbers_of_an_instance(rt: HostRuntime) -> Result<(), Fail> {
+    let instance = record_behind(&MIXED, 0)?.expect(&rt, "an instance");
     let mut numbers = instance.numbers();
     for wanted in [Some(300), Some(2), Some(0), Some(127), None, None] {
         assert_eq!(rt; numbers.next(), wanted);
     }
-    let entry = records.next()?.expect(&rt, "an entry");
+    Ok(())
+}
+
+#[test]
+fn reads_the_name_of_an_entry(rt: HostRuntime) -> Result<(), Fail> {
+    let entry = record_behind(&MIXED, 1)?.expect(&rt, "an entry");
     assert_eq!(rt; entry.name(), [b'a', 0xff].as_slice());
-    assert_eq!(rt; entry.number(0), Some(2));
-    assert_eq!(rt; entry.number(1), Some(5));
-    assert_eq!(rt; entry.number(2), None);
-    let variable = records.next()?.expect(&rt, "a variable");
+    let numbers = (entry.number(0), entry.number(1), entry.number(2));
+    assert_eq!(rt; numbers, (Some(2), Some(5), None));
+    Ok(())
+}
+
+#[test]
+fn reads_the_greatest_number(rt: HostRuntime) -> Result<(), Fail> {
+    let variable = record_behind(&MIXED, 2)?.expect(&rt, "a variable");
     assert_eq!(rt; variable.number(0), Some(0xffff_ffff_ffff_ffff));
     Ok(())
 }
