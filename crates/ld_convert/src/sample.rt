@@ -1,23 +1,19 @@
 //! Three lines with their derivation, for the tests, each with a parameter x of type `*`: the primitive `p : *`, `c := *`
 //! and `k := x`.
-ghost use Rattle.std.specs.Prelude.{◌≡◌, ◌<◌, ◌≤◌, ◌+◌, ◌^◌, ◌++◌, ◌∷◌, [], length, IfOk, IfSome, OnOk, IsTrue};
-ghost use Rattle.ld_terms.specs.Tree as tree;
-ghost use Rattle.ld_terms.specs.Bank.{tree_at, IsTermAt, IsListAt, StandsFor, Extends};
+ghost use Rattle.std.specs.Prelude.{◌≡◌, [], IfOk, IfSome, OnOk, IsTrue};
+ghost use Rattle.ld_terms.specs.Bank.{tree_at, IsTermAt, IsListAt, Extends};
 ghost use Rattle.ld_terms.specs.Named.{IsNamed};
-ghost use Rattle.ld_terms.specs.Known.{Judgement, judgement_at, line_entry, primitive_entry};
 ghost use Rattle.ld_env.specs.Entries.{env_of, AreLive};
 ghost use Rattle.ld_record.specs.Kept.{known_of, IsSound};
-ghost use Rattle.ld_record.specs.Growth.{Knows, Adds};
-ghost use Rattle.ld_record.specs.declared.record.JudgeId.{JudgeId as Number};
-ghost use Rattle.ld_reduce.specs.Samples as judged;
+ghost use Rattle.ld_samples.specs.Samples.{AreTerms, AreJudged};
 ghost use Rattle.ld_convert.specs.Samples as sample;
 ghost use Rattle.ld_convert.specs.Turned.{IsReady, AreComparable};
 
 use crate::Job;
-use fb_base::{NoMemory, Text};
-use ld_env::{Entry, Env};
-use ld_record::{Deriv, Judge, JudgeId, Step};
-use ld_terms::{Bank, Node, TermFault, TermId, Terms};
+use ld_env::Env;
+use ld_record::Deriv;
+use ld_samples::{SampleJudges, SampleTerms, entry, judgements, line, primitive, terms};
+use ld_terms::{Bank, Node, TermId};
 use std::alloc::Global;
 use std::test::Fail;
 
@@ -86,23 +82,9 @@ fn lines(alloc: Global, bank: &mut Bank, env: &mut Env, deriv: &mut Deriv) -> Re
     ensures lines { OnOk result ((known_of bank.new deriv.new).env ≡ sample.lines) }
     ensures kept { OnOk result (Extends bank.old bank.new) }
 {
-    let (star, over, x) = terms(bank)?;
-    let (within, typed) = judgements(deriv, bank, star, over, x)?;
-    entries(alloc, bank, env, deriv, (star, over, x), (within, typed))?;
-    Ok(())
-}
-
-// `*`, `box` and `x`
-fn terms(bank: &mut Bank) -> Result<(TermId, TermId, TermId), TermFault>
-    ensures star { IfOk result (λ t. StandsFor bank.new t.0 tree.Star) }
-    ensures over { IfOk result (λ t. StandsFor bank.new t.1 tree.Box) }
-    ensures x { IfOk result (λ t. StandsFor bank.new t.2 (tree.Var 0)) }
-    ensures kept { OnOk result (Extends bank.old bank.new) }
-{
-    let star = bank.add(Node::Star)?;
-    let over = bank.add(Node::Box_)?;
-    let x = bank.add(Node::Var(0))?;
-    Ok((star, over, x))
+    let terms = terms(bank)?;
+    let judges = judgements(deriv, bank, terms)?;
+    entries(alloc, bank, env, deriv, terms, judges)
 }
 
 // The entries of the lines, by the judgements of `*` and of `x` in the context of a variable of type `*`.
@@ -111,212 +93,24 @@ fn entries(
     bank: &Bank,
     env: &mut Env,
     deriv: &mut Deriv,
-    terms: (TermId, TermId, TermId),
-    judges: (JudgeId, JudgeId),
+    terms: SampleTerms,
+    judges: SampleJudges,
 ) -> Result<(), Fail>
     requires none { env.old ≡ [] }
-    requires no_entries { (known_of bank.now deriv.old).env ≡ [] }
     requires sound { IsSound bank.now deriv.old }
-    requires star { StandsFor bank.now terms.0 tree.Star }
-    requires over { StandsFor bank.now terms.1 tree.Box }
-    requires x { StandsFor bank.now terms.2 (tree.Var 0) }
-    requires within { Knows (known_of bank.now deriv.old) judges.0 judged.inner_sort }
-    requires typed { Knows (known_of bank.now deriv.old) judges.1 judged.variable }
+    requires terms { AreTerms bank.now terms }
+    requires judged { AreJudged (known_of bank.now deriv.old) judges }
     ensures sound { OnOk result (IsSound bank.now deriv.new) }
     ensures env { OnOk result (env_of bank.now env.new ≡ (known_of bank.now deriv.new).env) }
     ensures live { OnOk result (AreLive bank.now env.new) }
     ensures lines { OnOk result ((known_of bank.now deriv.new).env ≡ sample.lines) }
 {
-    let (star, over, x) = terms;
-    let (within, typed) = judges;
-    let names = name(alloc, b'p')?;
-    let entry = unary(alloc, None, star, star)?;
-    primitive(bank, env, deriv, names, entry, within)?;
-    let names = name(alloc, b'c')?;
-    let entry = unary(alloc, Some(star), over, star)?;
-    line(bank, env, deriv, names, entry, within)?;
-    let names = name(alloc, b'k')?;
-    let entry = unary(alloc, Some(x), star, star)?;
-    line(bank, env, deriv, names, entry, typed)?;
-    Ok(())
-}
-
-// `* : box` and `x : *` in the context of a variable of type `*`, from no judgement.
-fn judgements(
-    deriv: &mut Deriv,
-    bank: &Bank,
-    star: TermId,
-    over: TermId,
-    x: TermId,
-) -> Result<(JudgeId, JudgeId), NoMemory>
-    requires none { deriv.old ≡ [] }
-    requires star { StandsFor bank.now star tree.Star }
-    requires over { StandsFor bank.now over tree.Box }
-    requires x { StandsFor bank.now x (tree.Var 0) }
-    ensures within { IfOk result (λ j. Knows (known_of bank.now deriv.new) j.0 judged.inner_sort) }
-    ensures typed { IfOk result (λ j. Knows (known_of bank.now deriv.new) j.1 judged.variable) }
-    ensures env { OnOk result ((known_of bank.now deriv.new).env ≡ []) }
-    ensures sound { IsSound bank.now deriv.new }
-{
-    let sort = sort(deriv, bank, star, over)?;
-    let within = inner_sort(deriv, bank, star, over, sort)?;
-    let typed = variable(deriv, bank, x, star, sort, within)?;
-    Ok((within, typed))
-}
-
-// `* : box`
-fn sort(deriv: &mut Deriv, bank: &Bank, star: TermId, over: TermId) -> Result<JudgeId, NoMemory>
-    requires none { deriv.old ≡ [] }
-    requires star { StandsFor bank.now star tree.Star }
-    requires over { StandsFor bank.now over tree.Box }
-    ensures number { IfOk result (λ j. Knows (known_of bank.now deriv.new) j judged.sort) }
-    ensures env { (known_of bank.now deriv.new).env ≡ [] }
-    ensures sound { IsSound bank.now deriv.new }
-{
-    let judge = Judge {
-        entries: 0,
-        ctx: deriv.empty(),
-        term: star,
-        of: over,
-    };
-    deriv.emit(bank, judge, Step::Sort)
-}
-
-// `* : box` in the context of a variable of type `*`
-fn inner_sort(
-    deriv: &mut Deriv,
-    bank: &Bank,
-    star: TermId,
-    over: TermId,
-    j: JudgeId,
-) -> Result<JudgeId, NoMemory>
-    requires sound { IsSound bank.now deriv.old }
-    requires star { StandsFor bank.now star tree.Star }
-    requires over { StandsFor bank.now over tree.Box }
-    requires judged { Knows (known_of bank.now deriv.old) j judged.sort }
-    ensures number { IfOk result (λ k. Knows (known_of bank.now deriv.new) k judged.inner_sort) }
-    ensures adds { Adds (known_of bank.now deriv.old) (known_of bank.now deriv.new) }
-    ensures sound { IsSound bank.now deriv.new }
-{
-    let empty = deriv.empty();
-    let ctx = deriv.extend(bank, empty, star)?;
-    let judge = Judge {
-        entries: 0,
-        ctx,
-        term: star,
-        of: over,
-    };
-    deriv.emit(bank, judge, Step::Weak(j, j))
-}
-
-// `x : *`, in the context of `inner`
-fn variable(
-    deriv: &mut Deriv,
-    bank: &Bank,
-    x: TermId,
-    star: TermId,
-    j: JudgeId,
-    inner: JudgeId,
-) -> Result<JudgeId, NoMemory>
-    requires sound { IsSound bank.now deriv.old }
-    requires x { StandsFor bank.now x (tree.Var 0) }
-    requires star { StandsFor bank.now star tree.Star }
-    requires judged { Knows (known_of bank.now deriv.old) j judged.sort }
-    requires inner { Knows (known_of bank.now deriv.old) inner judged.inner_sort }
-    ensures number { IfOk result (λ k. Knows (known_of bank.now deriv.new) k judged.variable) }
-    ensures adds { Adds (known_of bank.now deriv.old) (known_of bank.now deriv.new) }
-    ensures sound { IsSound bank.now deriv.new }
-{
-    let judge = Judge {
-        entries: 0,
-        ctx: deriv.judge(bank, inner).ctx,
-        term: x,
-        of: star,
-    };
-    deriv.emit(bank, judge, Step::Var(j))
-}
-
-// The names, twice each.
-fn name(alloc: Global, byte: u8) -> Result<(Text, Text), Fail>
-    ensures same { IfOk result (λ n. n.0 ≡ n.1) }
-    ensures is { IfOk result (λ n. n.1 ≡ byte ∷ []) }
-{
-    let first = Text::from_bytes(alloc, &[byte])?;
-    let second = Text::from_bytes(alloc, &[byte])?;
-    Ok((first, second))
-}
-
-// An entry with a parameter of the type `param`.
-fn unary(alloc: Global, body: Option<TermId>, of: TermId, param: TermId) -> Result<Entry, Fail>
-    ensures params { IfOk result (λ e. e.params ≡ param ∷ []) }
-    ensures body { IfOk result (λ e. e.body ≡ body) }
-    ensures of { IfOk result (λ e. e.of ≡ of) }
-{
-    let mut params = Vec::new(alloc);
-    params.push(param)?;
-    Ok(Entry {
-        params: Terms::from_vec(params),
-        body,
-        of,
-    })
-}
-
-// A line of a judgement, under a name that is given twice.
-fn line(
-    bank: &Bank,
-    env: &mut Env,
-    deriv: &mut Deriv,
-    names: (Text, Text),
-    entry: Entry,
-    j: JudgeId,
-) -> Result<(), Fail>
-    requires sound { IsSound bank.now deriv.old }
-    requires same { names.0 ≡ names.1 }
-    requires some { 0 < length names.1 }
-    requires short { length names.1 ≤ 255 }
-    requires room { length env.old + 1 < 2 ^ 32 }
-    requires env { env_of bank.now env.old ≡ (known_of bank.now deriv.old).env }
-    requires live { AreLive bank.now env.old }
-    requires judged { judged.IsOf bank.now (known_of bank.now deriv.old) entry j }
-    ensures sound { IsSound bank.now deriv.new }
-    ensures env { OnOk result (env_of bank.now env.new ≡ (known_of bank.now deriv.new).env) }
-    ensures live { OnOk result (AreLive bank.now env.new) }
-    ensures added { OnOk result ((known_of bank.now deriv.new).env ≡ (known_of bank.now deriv.old).env ++ line_entry names.1 (judgement_at (known_of bank.now deriv.old) j.0) ∷ []) }
-    ensures kept { OnOk result ((i : Number) (s : Judgement) → Knows (known_of bank.now deriv.old) i s → Knows (known_of bank.now deriv.new) i s) }
-    ensures one { OnOk result (length env.new ≡ length env.old + 1) }
-{
-    let over = deriv.lift_by_def(bank, j, env.len())?;
-    env.push(names.0, entry)?;
-    deriv.entry(bank, names.1, over, false)?;
-    Ok(())
-}
-
-// A primitive of a judgement.
-fn primitive(
-    bank: &Bank,
-    env: &mut Env,
-    deriv: &mut Deriv,
-    names: (Text, Text),
-    entry: Entry,
-    j: JudgeId,
-) -> Result<(), Fail>
-    requires sound { IsSound bank.now deriv.old }
-    requires same { names.0 ≡ names.1 }
-    requires some { 0 < length names.1 }
-    requires short { length names.1 ≤ 255 }
-    requires room { length env.old + 1 < 2 ^ 32 }
-    requires env { env_of bank.now env.old ≡ (known_of bank.now deriv.old).env }
-    requires live { AreLive bank.now env.old }
-    requires judged { sample.IsPrimitiveOf bank.now (known_of bank.now deriv.old) entry j }
-    ensures sound { IsSound bank.now deriv.new }
-    ensures env { OnOk result (env_of bank.now env.new ≡ (known_of bank.now deriv.new).env) }
-    ensures live { OnOk result (AreLive bank.now env.new) }
-    ensures added { OnOk result ((known_of bank.now deriv.new).env ≡ (known_of bank.now deriv.old).env ++ primitive_entry names.1 (judgement_at (known_of bank.now deriv.old) j.0) ∷ []) }
-    ensures kept { OnOk result ((i : Number) (s : Judgement) → Knows (known_of bank.now deriv.old) i s → Knows (known_of bank.now deriv.new) i s) }
-    ensures one { OnOk result (length env.new ≡ length env.old + 1) }
-{
-    let over = deriv.lift_by_def(bank, j, env.len())?;
-    env.push(names.0, entry)?;
-    deriv.entry(bank, names.1, over, true)?;
+    let types = [terms.star];
+    let given = entry(alloc, &types, None, terms.star)?;
+    primitive(alloc, bank, env, deriv, b'p', given, judges.inner_sort)?;
+    let sort = entry(alloc, &types, Some(terms.star), terms.over)?;
+    line(alloc, bank, env, deriv, b'c', sort, judges.inner_sort)?;
+    let variable = entry(alloc, &types, Some(terms.inner), terms.star)?;
+    line(alloc, bank, env, deriv, b'k', variable, judges.variable)?;
     Ok(())
 }
