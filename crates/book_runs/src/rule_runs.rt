@@ -1,7 +1,7 @@
 //! Runs over books with flags, products, abstractions and applications. The answers were worked out by hand from the
 //! rules.
 
-use crate::test_runs::{check, check_budgets, check_each, check_pieces};
+use crate::desk::{check, check_budgets, check_each, check_pieces};
 use std::test::Fail;
 
 #[test]

@@ -1,6 +1,6 @@
 //! Runs over books whose names are in other letters, or long.
 
-use crate::test_runs::{check, check_each};
+use crate::desk::{check, check_each};
 use std::alloc::Global;
 use std::process::Abort;
 use std::test::Fail;

@@ -1,6 +1,6 @@
 //! What the tests share: desks in memory, and runs over them whose answers are compared.
 
-use crate::{Status, run};
+use book_top::{Status, run};
 use fb_base::{MemDesk, NoMemory, Text};
 use std::alloc::Global;
 use std::process::Abort;

@@ -1,8 +1,8 @@
 //! Runs over small books that a rule refuses at a part of a part. The answers were worked out by hand from the rules.
 
-use crate::WhyName;
-use crate::refusal_tests::check_refused_each;
-use crate::test_runs::check_each;
+use crate::desk::check_each;
+use crate::refusal_runs::check_refused_each;
+use book_top::WhyName;
 use std::test::Fail;
 
 #[test]

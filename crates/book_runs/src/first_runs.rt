@@ -1,10 +1,10 @@
 //! Runs over a desk in memory with their outcomes, worked out by hand.
 
-use crate::test_runs::{
+use crate::desk::{
     ONE_PRIMITIVE, answer, check, check_pieces, compare_faults, compare_file, compare_old,
     compare_run, desk_with,
 };
-use crate::{RuleFault, Status, TextWhat, WhyName};
+use book_top::{RuleFault, Status, TextWhat, WhyName};
 use ld_infer::{PathStep, RuleName};
 use std::alloc::Global;
 use std::process::Abort;

@@ -1,6 +1,6 @@
 //! Runs over books whose lines have parameters. The answers were worked out by hand from the rules.
 
-use crate::test_runs::check_each;
+use crate::desk::check_each;
 use std::test::Fail;
 
 #[test]

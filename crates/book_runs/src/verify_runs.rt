@@ -1,10 +1,10 @@
 //! Verifications of derivation files over a desk in memory. The answers were worked out by hand.
 
-use crate::test_runs::{
+use crate::desk::{
     ONE_PRIMITIVE, USAGE, check, compare_faults, compare_file, compare_old, compare_run,
     compare_status, desk_of,
 };
-use crate::{Status, run};
+use book_top::{Status, run};
 use dr_text::reader::RecordFault;
 use fb_base::{MemDesk, NoMemory};
 use std::alloc::Global;

@@ -2,8 +2,8 @@
 //! The answers were worked out by hand from the rules. Beside each book stands why there is no derivation: a part that has
 //! one type has no others but those that are equal to it by steps.
 
-use crate::test_runs::{answer, check};
-use crate::{Status, WhyName};
+use crate::desk::{answer, check};
+use book_top::{Status, WhyName};
 use std::alloc::Global;
 use std::process::Abort;
 use std::test::Fail;

@@ -1,6 +1,6 @@
 //! Runs of words that ask for a check, or for nothing that is known. The outcomes were worked out by hand.
 
-use crate::test_runs::{
+use crate::desk::{
     ONE_PRIMITIVE, USAGE, compare_faults, compare_file, compare_old, compare_run, desk_of,
     desk_with,
 };

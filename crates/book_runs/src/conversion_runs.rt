@@ -1,8 +1,8 @@
 //! Runs over books in which a type is the one that is wanted only by beta steps and unfoldings. The answers were worked out
 //! by hand from the rules and the order of comparison.
 
-use crate::run;
-use crate::test_runs::{check, check_budgets, check_each, check_within};
+use crate::desk::{check, check_budgets, check_each, check_within};
+use book_top::run;
 use std::alloc::Global;
 use std::process::Abort;
 use std::test::Fail;
