@@ -16,37 +16,29 @@ applied_some : (x u : Tree) (o : Option Tree) → applied x o ≡ Some u → (g 
 applied_some x u None e = absurd (cc)
 applied_some x u (Some g) e = (g, refl, cc)
 
-applied_none : (x : Tree) (o : Option Tree) → applied x o ≡ None → o ≡ None
+pub applied_none : (x : Tree) (o : Option Tree) → applied x o ≡ None → o ≡ None
 applied_none x None e = refl
 applied_none x (Some g) e = absurd (cc)
 
-under_argument : {env : Env} {f g u : Tree} → Converts env f g → Converts env (App f u) (App g u)
-under_argument (Converts.step s) = Converts.step (Step.in_function s)
-under_argument Converts.same = Converts.same
-under_argument (Converts.back h) = Converts.back (under_argument h)
-under_argument (Converts.chain h k) = Converts.chain (under_argument h) (under_argument k)
+in_application : (env : Env) (f x u : Tree) (o : Option Tree) → applied x o ≡ Some u → ((g : Tree) → o ≡ Some g → Step env f g) → Step env (App f x) u
+in_application env f x u o e h = let g = applied_some x u o e in subst (Step env (App f x)) g.2 (Step.in_function (h g.0 g.1))
 
-application_converts : (env : Env) (f x u : Tree) (o : Option Tree) → applied x o ≡ Some u → ((g : Tree) → o ≡ Some g → Converts env f g) → Converts env (App f x) u
-application_converts env f x u o e h =
-    let g = applied_some x u o e in
-    subst (Converts env (App f x)) g.2 (under_argument (h g.0 g.1))
-
-beta_converts : (env : Env) (t u : Tree) → beta_step t ≡ Some u → Converts env t u
-beta_converts env (App (Lam a m) x) u e =
+pub beta_makes : (env : Env) (t u : Tree) → beta_step t ≡ Some u → Step env t u
+beta_makes env (App (Lam a m) x) u e =
     let is : put m (Nil ▸ x) ≡ u = cc in
-    subst (Converts env (App (Lam a m) x)) is (Converts.step Step.beta)
-beta_converts env (App (App f y) x) u e = application_converts env (App f y) x u (beta_step (App f y)) e (λ g is. beta_converts env (App f y) g is)
-beta_converts env (App Star x) u e = absurd (cc)
-beta_converts env (App Box x) u e = absurd (cc)
-beta_converts env (App (Var i) x) u e = absurd (cc)
-beta_converts env (App (Pi a b) x) u e = absurd (cc)
-beta_converts env (App (Const k us) x) u e = absurd (cc)
-beta_converts env Star u e = absurd (cc)
-beta_converts env Box u e = absurd (cc)
-beta_converts env (Var i) u e = absurd (cc)
-beta_converts env (Lam a m) u e = absurd (cc)
-beta_converts env (Pi a b) u e = absurd (cc)
-beta_converts env (Const k us) u e = absurd (cc)
+    subst (Step env (App (Lam a m) x)) is Step.beta
+beta_makes env (App (App f y) x) u e = in_application env (App f y) x u (beta_step (App f y)) e (λ g is. beta_makes env (App f y) g is)
+beta_makes env (App Star x) u e = absurd (cc)
+beta_makes env (App Box x) u e = absurd (cc)
+beta_makes env (App (Var i) x) u e = absurd (cc)
+beta_makes env (App (Pi a b) x) u e = absurd (cc)
+beta_makes env (App (Const k us) x) u e = absurd (cc)
+beta_makes env Star u e = absurd (cc)
+beta_makes env Box u e = absurd (cc)
+beta_makes env (Var i) u e = absurd (cc)
+beta_makes env (Lam a m) u e = absurd (cc)
+beta_makes env (Pi a b) u e = absurd (cc)
+beta_makes env (Const k us) u e = absurd (cc)
 
 -- an instance of an entry that unfolds, with as many arguments as parameters
 as_many : (n m : ℕ) → (n == m) ≡ true → n ≡ m
@@ -55,28 +47,28 @@ as_many n m e = grind (arith, nat_tests)
 so_many : (n m : ℕ) → n ≡ m → (n == m) ≡ true
 so_many n m e = grind (arith, nat_tests)
 
-body_converts : (env : Env) (k : ℕ) (us : Trees) (x : Entry) → EntryAt env k x → (same : Bool) → (count us == count x.params) ≡ same → (b : Body) → x.body ≡ b → (u : Tree)
-    → with_arguments same b us ≡ Some u → Converts env (Const k us) u
-body_converts env k us x at true m (Defined t) d u e =
+body_makes : (env : Env) (k : ℕ) (us : Trees) (x : Entry) → EntryAt env k x → (same : Bool) → (count us == count x.params) ≡ same → (b : Body) → x.body ≡ b → (u : Tree)
+    → with_arguments same b us ≡ Some u → Step env (Const k us) u
+body_makes env k us x at true m (Defined t) d u e =
     let is : put t us ≡ u = cc in
     let opens : UnfoldsTo x.body t = subst (λ b. UnfoldsTo b t) (sym d) UnfoldsTo.unfolds in
-    subst (Converts env (Const k us)) is (Converts.step (Step.delta at opens (as_many (count us) (count x.params) m)))
-body_converts env k us x at true m Primitive d u e = absurd (cc)
-body_converts env k us x at false m (Defined t) d u e = absurd (cc)
-body_converts env k us x at false m Primitive d u e = absurd (cc)
+    subst (Step env (Const k us)) is (Step.delta at opens (as_many (count us) (count x.params) m))
+body_makes env k us x at true m Primitive d u e = absurd (cc)
+body_makes env k us x at false m (Defined t) d u e = absurd (cc)
+body_makes env k us x at false m Primitive d u e = absurd (cc)
 
-instance_converts : (env : Env) (k : ℕ) (us : Trees) (u : Tree) (o : Option Entry) → slice_get env k ≡ o → unfolding_of o us ≡ Some u → Converts env (Const k us) u
-instance_converts env k us u None at e = absurd (cc)
-instance_converts env k us u (Some x) at e = body_converts env k us x at (count us == count x.params) refl x.body refl u e
+instance_makes : (env : Env) (k : ℕ) (us : Trees) (u : Tree) (o : Option Entry) → slice_get env k ≡ o → unfolding_of o us ≡ Some u → Step env (Const k us) u
+instance_makes env k us u None at e = absurd (cc)
+instance_makes env k us u (Some x) at e = body_makes env k us x at (count us == count x.params) refl x.body refl u e
 
-delta_converts : (env : Env) (t u : Tree) → delta_step env t ≡ Some u → Converts env t u
-delta_converts env (Const k us) u e = instance_converts env k us u (slice_get env k) refl e
-delta_converts env (App f x) u e = application_converts env f x u (delta_step env f) e (λ g is. delta_converts env f g is)
-delta_converts env Star u e = absurd (cc)
-delta_converts env Box u e = absurd (cc)
-delta_converts env (Var i) u e = absurd (cc)
-delta_converts env (Lam a m) u e = absurd (cc)
-delta_converts env (Pi a b) u e = absurd (cc)
+pub delta_makes : (env : Env) (t u : Tree) → delta_step env t ≡ Some u → Step env t u
+delta_makes env (Const k us) u e = instance_makes env k us u (slice_get env k) refl e
+delta_makes env (App f x) u e = in_application env f x u (delta_step env f) e (λ g is. delta_makes env f g is)
+delta_makes env Star u e = absurd (cc)
+delta_makes env Box u e = absurd (cc)
+delta_makes env (Var i) u e = absurd (cc)
+delta_makes env (Lam a m) u e = absurd (cc)
+delta_makes env (Pi a b) u e = absurd (cc)
 
 -- a way of such steps that comes to a tree
 runs_convert : (env : Env) (t u : Tree) (r : Reached) (n : ℕ) → Runs beta_step t r n → r ≡ At u → Converts env t u × (beta_step u ≡ None)
@@ -85,13 +77,13 @@ runs_convert env t u r n (over e) is =
     (subst (Converts env t) same Converts.same, subst (λ x. beta_step x ≡ None) same e)
 runs_convert env t u r n (more {n = k} v e small run) is =
     let h = runs_convert env v u r k run is in
-    (Converts.chain (beta_converts env t v e) h.0, h.1)
+    (Converts.chain (Converts.step (beta_makes env t v e)) h.0, h.1)
 runs_convert env t u r n (too_high v e high) is = absurd (cc)
 
 unfold_converts : (env : Env) (t u : Tree) (r : Reached) (n : ℕ) → Unfold env t r n → r ≡ At u → Converts env t u
 unfold_converts env t u r n (unfolded {u = v} e small) is =
     let same : v ≡ u = cc in
-    subst (Converts env t) same (delta_converts env t v e)
+    subst (Converts env t) same (Converts.step (delta_makes env t v e))
 unfold_converts env t u r n (Unfold.too_high v e high) is = absurd (cc)
 
 -- the same as tasks, which have no fault

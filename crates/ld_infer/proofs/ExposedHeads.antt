@@ -1,71 +1,13 @@
 -- What a type is exposed to: it goes there by steps of the calculus, and what it comes to is rigid.
-use Rattle.std.proofs.Common.{◌≡◌, ◌==◌, ℕ, Bool, true, false, Option, None, Some, slice_get, refl, ap, sym, ◌∙◌, subst, arith}
-use Rattle.std.proofs.lemmas.Bool.Decides.{nat_tests}
-use Rattle.ld_terms.specs.Tree.{Tree, Star, Box, Var, App, Lam, Pi, Const, Trees, Nil, ◌▸◌, count}
-use Rattle.ld_terms.specs.Put.{put}
-use Rattle.ld_terms.specs.Entry.{Entry, EntryAt, Body, Defined, Primitive, Env, UnfoldsTo}
+use Rattle.std.proofs.Common.{◌≡◌, ℕ, Option, None, Some, refl, ap, ◌∙◌, subst}
+use Rattle.ld_terms.specs.Tree.{Tree, Star, Box, Var, App, Lam, Pi, Const}
+use Rattle.ld_terms.specs.Entry.{Env}
 use Rattle.ld_terms.specs.Step.{Step}
 use Rattle.ld_laws.specs.Heads.{IsRigid}
 use Rattle.ld_laws.specs.Reduction.{Steps, end, then_on}
-use Rattle.ld_reduce.specs.Heads.{Reached, At, Runs, over, more, too_high, Expose, applied, beta_step, with_arguments, unfolding_of, delta_step, first_of, head_step, if_some, head_number, reaches}
-use Rattle.ld_convert.proofs.HeadSteps.{rigid}
+use Rattle.ld_reduce.specs.Heads.{Reached, At, Runs, over, more, too_high, Expose, beta_step, delta_step, first_of, head_step, if_some, head_number, reaches}
+use Rattle.ld_convert.proofs.HeadSteps.{rigid, applied_none, beta_makes, delta_makes}
 use Rattle.ld_convert.proofs.Means.{Means, reaches_means}
-
--- the step of an application, from that of its function part
-applied_some : (x u : Tree) (o : Option Tree) → applied x o ≡ Some u → (g : Tree) × (o ≡ Some g) × (App g x ≡ u)
-applied_some x u None e = absurd (cc)
-applied_some x u (Some g) e = (g, refl, cc)
-
-applied_none : (x : Tree) (o : Option Tree) → applied x o ≡ None → o ≡ None
-applied_none x None e = refl
-applied_none x (Some g) e = absurd (cc)
-
-in_application : (env : Env) (f x u : Tree) (o : Option Tree) → applied x o ≡ Some u → ((g : Tree) → o ≡ Some g → Step env f g) → Step env (App f x) u
-in_application env f x u o e h = let g = applied_some x u o e in subst (Step env (App f x)) g.2 (Step.in_function (h g.0 g.1))
-
-beta_makes : (env : Env) (t u : Tree) → beta_step t ≡ Some u → Step env t u
-beta_makes env (App (Lam a m) x) u e =
-    let is : put m (Nil ▸ x) ≡ u = cc in
-    subst (Step env (App (Lam a m) x)) is Step.beta
-beta_makes env (App (App f y) x) u e = in_application env (App f y) x u (beta_step (App f y)) e (λ g is. beta_makes env (App f y) g is)
-beta_makes env (App Star x) u e = absurd (cc)
-beta_makes env (App Box x) u e = absurd (cc)
-beta_makes env (App (Var i) x) u e = absurd (cc)
-beta_makes env (App (Pi a b) x) u e = absurd (cc)
-beta_makes env (App (Const k us) x) u e = absurd (cc)
-beta_makes env Star u e = absurd (cc)
-beta_makes env Box u e = absurd (cc)
-beta_makes env (Var i) u e = absurd (cc)
-beta_makes env (Lam a m) u e = absurd (cc)
-beta_makes env (Pi a b) u e = absurd (cc)
-beta_makes env (Const k us) u e = absurd (cc)
-
--- an instance of an entry that unfolds, with as many arguments as parameters
-as_many : (n m : ℕ) → (n == m) ≡ true → n ≡ m
-as_many n m e = grind (arith, nat_tests)
-
-body_makes : (env : Env) (k : ℕ) (us : Trees) (x : Entry) → EntryAt env k x → (same : Bool) → (count us == count x.params) ≡ same → (b : Body) → x.body ≡ b → (u : Tree)
-    → with_arguments same b us ≡ Some u → Step env (Const k us) u
-body_makes env k us x at true m (Defined t) d u e =
-    let is : put t us ≡ u = cc in
-    let opens : UnfoldsTo x.body t = subst (λ b. UnfoldsTo b t) (sym d) UnfoldsTo.unfolds in
-    subst (Step env (Const k us)) is (Step.delta at opens (as_many (count us) (count x.params) m))
-body_makes env k us x at true m Primitive d u e = absurd (cc)
-body_makes env k us x at false m (Defined t) d u e = absurd (cc)
-body_makes env k us x at false m Primitive d u e = absurd (cc)
-
-instance_makes : (env : Env) (k : ℕ) (us : Trees) (u : Tree) (o : Option Entry) → slice_get env k ≡ o → unfolding_of o us ≡ Some u → Step env (Const k us) u
-instance_makes env k us u None at e = absurd (cc)
-instance_makes env k us u (Some x) at e = body_makes env k us x at (count us == count x.params) refl x.body refl u e
-
-delta_makes : (env : Env) (t u : Tree) → delta_step env t ≡ Some u → Step env t u
-delta_makes env (Const k us) u e = instance_makes env k us u (slice_get env k) refl e
-delta_makes env (App f x) u e = in_application env f x u (delta_step env f) e (λ g is. delta_makes env f g is)
-delta_makes env Star u e = absurd (cc)
-delta_makes env Box u e = absurd (cc)
-delta_makes env (Var i) u e = absurd (cc)
-delta_makes env (Lam a m) u e = absurd (cc)
-delta_makes env (Pi a b) u e = absurd (cc)
 
 head_makes : (env : Env) (t u : Tree) (o : Option Tree) → beta_step t ≡ o → first_of o (delta_step env t) ≡ Some u → Step env t u
 head_makes env t u None e h = delta_makes env t u h
