@@ -1,5 +1,5 @@
 //! Judgements of the terms `*`, `all x : *. *` and `fun x : *. x`, and of one and two variables of type `*`.
-ghost use Rattle.std.specs.Prelude.{◌≡◌, [], IfOk, OnOk};
+ghost use Rattle.std.specs.Prelude.{◌≡◌, [], Err, IfOk, OnOk};
 ghost use Rattle.ld_terms.specs.Bank.{Extends};
 ghost use Rattle.ld_record.specs.Kept.{known_of, IsSound};
 ghost use Rattle.ld_record.specs.Growth.{Knows, Adds};
@@ -45,6 +45,7 @@ pub struct SampleJudges {
 pub fn terms(bank: &mut Bank) -> Result<SampleTerms, TermFault>
     ensures terms { IfOk result (λ terms. sample.AreTerms bank.new terms) }
     ensures kept { OnOk result (Extends bank.old bank.new) }
+    ensures never_high { result ≡ Err TermFault.High → ⊥ }
 {
     let star = bank.add(Node::Star)?;
     let over = bank.add(Node::Box_)?;
