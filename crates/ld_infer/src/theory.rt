@@ -138,6 +138,7 @@ impl Theory {
         ensures tree { IfOk result (λ t. Holds self.new.items t (item_of self.old.items node)) }
         ensures small { IfOk result (λ t. IsSmall (item_at self.new.items t)) }
         ensures high { (result ≡ Err TermFault.High) ↔ ¬ IsSmall (item_of self.old.items node) }
+        ensures err { OnErr result (self.new ≡ self.old) }
         ensures continues { Continues self.old self.new }
     {
         self.bank.add(node)
