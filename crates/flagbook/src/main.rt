@@ -1,6 +1,27 @@
 //! The program: it takes its words and its memory from the runtime, and ends with the status of the run.
 #![tactic(auto)]
 
+#[cfg(test)]
+mod command_runs;
+#[cfg(test)]
+mod conversion_runs;
+#[cfg(test)]
+mod desk;
+#[cfg(test)]
+mod first_runs;
+#[cfg(test)]
+mod name_runs;
+#[cfg(test)]
+mod parameter_runs;
+#[cfg(test)]
+mod path_runs;
+#[cfg(test)]
+mod refusal_runs;
+#[cfg(test)]
+mod rule_runs;
+#[cfg(test)]
+mod verify_runs;
+
 use book_top::run;
 use fb_base::HostDesk;
 use std::alloc::{AllocError, Global};
