@@ -1,16 +1,33 @@
 -- How a pair is found among those that are known.
-use Rattle.std.proofs.Common.{◌≡◌, ◌<◌, ◌≤◌, ℕ, zero, suc, true, false, Bool, List, [], ◌∷◌, length, drop, slice_index_or, refl, sym, ap, ◌∙◌, subst, arith, ◌&&◌, ◌||◌}
-use Rattle.std.proofs.lemmas.Option.{slice_get-get_or}
-use Rattle.ld_terms.specs.Tree.{Tree}
+use Rattle.std.proofs.Common.{◌≡◌, suc, Bool, true, false, cond, ◌&&◌, ◌||◌, nat_eq, List, [], ◌∷◌, ◌++◌, length, All, None, Some, Result, Ok, Err, OnOk, OnErr, inl, inr, refl, sym, ap, ◌∙◌, arith, true≢false}
+use Rattle.std.proofs.lemmas.Bool.Decides.{nat_tests}
+use Rattle.std.proofs.lemmas.List.Elements.{All-head, All-tail}
+use Rattle.std.specs.Map.{lookup}
 use Rattle.ld_terms.specs.Item.{Item}
-use Rattle.ld_terms.specs.Bank.{tree_at}
-use Rattle.ld_terms.specs.Tests.{equals}
+use Rattle.ld_terms.specs.Bank.{tree_at, IsTermAt, AreOnce}
+use Rattle.ld_terms.specs.declared.bank.TermId.{TermId}
+use Rattle.ld_terms.proofs.Nodes.{one_from_tree}
 use Rattle.ld_terms.proofs.TreeTests.{equal_trees, other_trees}
+use Rattle.ld_record.specs.declared.record.EqId.{EqId}
 use Rattle.ld_convert.specs.Known.{is_known}
-use Rattle.ld_convert.specs.Pairs.{pairs_of, IsFound, IsKeptWith}
-use Rattle.std.proofs.Common.{inl, inr, Result, Ok, Err, OnOk, OnErr, ◌++◌}
-use Rattle.fb_base.specs.declared.texts.NoMemory.{NoMemory}
+use Rattle.ld_convert.specs.Pairs.{pairs_of, pairs_in, has_pair, HasTerms, IsFound, IsKeptWith}
 use Rattle.ld_convert.specs.declared.known.Pair.{Pair}
+use Rattle.fb_base.specs.declared.texts.NoMemory.{NoMemory}
+
+abbrev pub Entries : Type 0
+Entries = List ((TermId × TermId) × EqId)
+
+-- whether a key is the pair of these numbers
+abbrev pub is_pair : (a b : TermId) → TermId × TermId → Bool
+is_pair a b k = nat_eq a.0 k.0.0 && nat_eq b.0 k.1.0
+
+-- the test by which a map compares its keys
+abbrev pub is_key : TermId × TermId → TermId × TermId → Bool
+is_key k = is_pair k.0 k.1
+
+by_test : {C : Type 0} (b : Bool) → (b ≡ true → C) → (b ≡ false → C) → C
+by_test true passes fails = passes refl
+by_test false passes fails = fails refl
 
 both_true : (s t r : Bool) → s ≡ true → t ≡ true → ((s && t) || r) ≡ true
 both_true s t r e f = cc
@@ -22,91 +39,108 @@ second_false : (s t r : Bool) → t ≡ false → ((s && t) || r) ≡ r
 second_false true t r e = cc
 second_false false t r e = refl
 
-known_at : (items : List Item) (ps : List Pair) (k : ℕ) (d : Pair) (a b : Tree) → k < length ps → tree_at items (slice_index_or ps k d).left ≡ a
-    → tree_at items (slice_index_or ps k d).right ≡ b → is_known (pairs_of items (drop k ps)) a b ≡ true
-known_at items [] k d a b lt l r = absurd (omega arith)
-known_at items (p ∷ ps) zero d a b lt l r =
-    both_true (equals (tree_at items p.left) a) (equals (tree_at items p.right) b) (is_known (pairs_of items ps) a b) (equal_trees (tree_at items p.left) a l) (equal_trees (tree_at items p.right) b r)
-known_at items (p ∷ ps) (suc k) d a b lt l r = known_at items ps k d a b (omega arith) l r
-
 later_true : (s r : Bool) → r ≡ true → (s || r) ≡ true
 later_true true r e = refl
 later_true false r e = e
 
-known_before : (items : List Item) (ps : List Pair) (k : ℕ) (a b : Tree) → is_known (pairs_of items (drop k ps)) a b ≡ true → is_known (pairs_of items ps) a b ≡ true
-known_before items [] zero a b h = h
-known_before items [] (suc k) a b h = h
-known_before items (p ∷ ps) zero a b h = h
-known_before items (p ∷ ps) (suc k) a b h =
-    later_true (equals (tree_at items p.left) a && equals (tree_at items p.right) b) (is_known (pairs_of items ps) a b) (known_before items ps k a b h)
+later_false : (s r : Bool) → (s || r) ≡ false → r ≡ false
+later_false true r e = absurd (true≢false e)
+later_false false r e = e
 
-found_at : (items : List Item) (ps : List Pair) (k : ℕ) (d : Pair) (a b : Tree) → k < length ps
-    → tree_at items (slice_index_or ps k d).left ≡ a → tree_at items (slice_index_or ps k d).right ≡ b → IsFound items ps a b (slice_index_or ps k d).equal
-found_at items ps k d a b lt l r = record {
-  known = known_before items ps k a b (known_at items ps k d a b lt l r);
-  number = k;
-  pair = slice_index_or ps k d;
-  there = slice_get-get_or ps k d lt;
-  left = l;
-  right = r;
-  equal = refl;
-}
+same_number : (s t : TermId) → nat_eq s.0 t.0 ≡ true → s ≡ t
+same_number s t e = let n : s.0 ≡ t.0 = grind (arith, nat_tests) in ap (λ k. record { 0 = k }) n
 
--- one pair that is none
-not_first : (items : List Item) (ps : List Pair) (k : ℕ) (d : Pair) (a b : Tree) → k < length ps → (tree_at items (slice_index_or ps k d).left ≡ a → ⊥)
-    → is_known (pairs_of items (drop k ps)) a b ≡ is_known (pairs_of items (drop (suc k) ps)) a b
-not_first items [] k d a b lt n = absurd (omega arith)
-not_first items (p ∷ ps) zero d a b lt n = first_false (equals (tree_at items p.left) a) (equals (tree_at items p.right) b) (is_known (pairs_of items ps) a b) (other_trees (tree_at items p.left) a n)
-not_first items (p ∷ ps) (suc k) d a b lt n = not_first items ps k d a b (omega arith) n
+other_number : (s t : TermId) → nat_eq s.0 t.0 ≡ false → s ≡ t → ⊥
+other_number s t e same = let n : s.0 ≡ t.0 = ap (λ k. k.0) same in grind (arith, nat_tests)
 
-not_second : (items : List Item) (ps : List Pair) (k : ℕ) (d : Pair) (a b : Tree) → k < length ps → (tree_at items (slice_index_or ps k d).right ≡ b → ⊥)
-    → is_known (pairs_of items (drop k ps)) a b ≡ is_known (pairs_of items (drop (suc k) ps)) a b
-not_second items [] k d a b lt n = absurd (omega arith)
-not_second items (p ∷ ps) zero d a b lt n = second_false (equals (tree_at items p.left) a) (equals (tree_at items p.right) b) (is_known (pairs_of items ps) a b) (other_trees (tree_at items p.right) b n)
-not_second items (p ∷ ps) (suc k) d a b lt n = not_second items ps k d a b (omega arith) n
+both_numbers : (a b : TermId) (k : TermId × TermId) → is_pair a b k ≡ true → (nat_eq a.0 k.0.0 ≡ true) × (nat_eq b.0 k.1.0 ≡ true)
+both_numbers a b k e = (first _ _ e, second _ _ e)
+  where
+    first : (s t : Bool) → (s && t) ≡ true → s ≡ true
+    first true t h = refl
+    first false t h = h
 
-none_left : (items : List Item) (ps : List Pair) (k : ℕ) (a b : Tree) → length ps ≤ k → is_known (pairs_of items (drop k ps)) a b ≡ false
-none_left items [] zero a b e = refl
-none_left items [] (suc k) a b e = refl
-none_left items (p ∷ ps) zero a b e = absurd (omega arith)
-none_left items (p ∷ ps) (suc k) a b e = none_left items ps k a b (omega arith)
+    second : (s t : Bool) → (s && t) ≡ true → t ≡ true
+    second true t h = h
+    second false t h = absurd (true≢false (sym h))
 
--- The pairs from a number on are no such pair.
-pub record NoneFrom (items : List Item) (ps : List Pair) (a b : Tree) (left : ℕ) : Type 0 where
-  pub within : left ≤ length ps
-  pub none : is_known (pairs_of items (drop left ps)) a b ≡ false
+-- where numbers of equal terms are equal, so are those of terms with one tree
+term_once : (items : List Item) (s t : TermId) → AreOnce items → IsTermAt items s → IsTermAt items t → tree_at items s ≡ tree_at items t → s ≡ t
+term_once items s t once p q e = (once s t p.live q.live).1 (one_from_tree _ _ p.form q.form e)
 
-pub none_from_end : (items : List Item) (ps : List Pair) (n : ℕ) (a b : Tree) → n ≡ length ps → NoneFrom items ps a b n
-none_from_end items ps n a b e = record { within = omega (arith, e); none = none_left items ps n a b (omega (arith, e)) }
+-- the first entry, as a look-up passes it
+passed : (a b : TermId) (e : (TermId × TermId) × EqId) (es : Entries) → is_pair a b e.0 ≡ false → lookup (is_pair a b) (e ∷ es) ≡ lookup (is_pair a b) es
+passed a b e es t = ap (λ c. cond c (Some e.1) (lookup (is_pair a b) es)) t
 
-pub found_in : (items : List Item) (ps qs : List Pair) (k : ℕ) (p : Pair) (a b : Tree) → qs ≡ ps → k < length ps → p ≡ slice_index_or qs k p
-    → tree_at items p.left ≡ a → tree_at items p.right ≡ b → IsFound items ps a b p.equal
-found_in items ps qs k p a b e lt at l r =
-    let here = subst (λ x. p ≡ slice_index_or x k p) e at in
-    let left = subst (λ (q : Pair). tree_at items q.left ≡ a) here l in
-    let right = subst (λ (q : Pair). tree_at items q.right ≡ b) here r in
-    subst (λ (q : Pair). IsFound items ps a b q.equal) (sym here) (found_at items ps k p a b lt left right)
+met : (a b : TermId) (e : (TermId × TermId) × EqId) (es : Entries) → is_pair a b e.0 ≡ true → lookup (is_pair a b) (e ∷ es) ≡ Some e.1
+met a b e es t = ap (λ c. cond c (Some e.1) (lookup (is_pair a b) es)) t
 
-from_here : (items : List Item) (ps : List Pair) (a b : Tree) (left k : ℕ) → NoneFrom items ps a b left → left ≡ suc k → is_known (pairs_of items (drop k ps)) a b ≡ is_known (pairs_of items (drop (suc k) ps)) a b
-    → NoneFrom items ps a b k
-from_here items ps a b left k h e same = record {
-  within = let w = h.within in omega (arith, e, w);
-  none = same ∙ subst (λ x. is_known (pairs_of items (drop x ps)) a b ≡ false) e h.none;
-}
+-- a pair that is found
+pub found_pair : (items : List Item) (es : Entries) (a b : TermId) (v : EqId) → lookup (is_pair a b) es ≡ Some v → IsFound items (pairs_in es) (tree_at items a) (tree_at items b) v
+found_pair items [] a b v h = absurd (cc)
+found_pair items (e ∷ es) a b v h =
+    by_test (is_pair a b e.0)
+    (λ t.
+    let numbers = both_numbers a b e.0 t in
+    let left : tree_at items e.0.0 ≡ tree_at items a = ap (tree_at items) (sym (same_number a e.0.0 numbers.0)) in
+    let right : tree_at items e.0.1 ≡ tree_at items b = ap (tree_at items) (sym (same_number b e.0.1 numbers.1)) in
+    let value : Some e.1 ≡ Some v = sym (met a b e es t) ∙ h in
+    record {
+      known = both_true _ _ _ (equal_trees _ _ left) (equal_trees _ _ right);
+      number = 0;
+      pair = record { left = e.0.0; right = e.0.1; equal = e.1 };
+      there = refl;
+      left = left;
+      right = right;
+      equal = cc;
+    })
+    (λ t.
+    let r = found_pair items es a b v (sym (passed a b e es t) ∙ h) in
+    record { known = later_true _ _ r.known; number = suc r.number; pair = r.pair; there = r.there; left = r.left; right = r.right; equal = r.equal })
 
-pub none_by_left : (items : List Item) (ps qs : List Pair) (a b : Tree) (left k : ℕ) (p : Pair) → NoneFrom items ps a b left → left ≡ suc k → qs ≡ ps → p ≡ slice_index_or qs k p
-    → (tree_at items p.left ≡ a → ⊥) → NoneFrom items ps a b k
-none_by_left items ps qs a b left k p h e same at n =
-    let w = h.within in
-    let here = subst (λ x. p ≡ slice_index_or x k p) same at in
-    from_here items ps a b left k h e (not_first items ps k p a b (omega (arith, e, w)) (λ l. n (ap (λ (q : Pair). tree_at items q.left) here ∙ l)))
+-- and one that isn't
+pub none_known : (items : List Item) (es : Entries) (a b : TermId) → AreOnce items → All (HasTerms items) (pairs_in es) → IsTermAt items a → IsTermAt items b → lookup (is_pair a b) es ≡ None
+    → is_known (pairs_of items (pairs_in es)) (tree_at items a) (tree_at items b) ≡ false
+none_known items [] a b once all p q none = refl
+none_known items (e ∷ es) a b once all p q none =
+    by_test (is_pair a b e.0)
+    (λ t. let no : None ≡ Some e.1 = sym none ∙ met a b e es t in absurd (cc))
+    (λ t.
+    let here : Pair = record { left = e.0.0; right = e.0.1; equal = e.1 } in
+    let terms : HasTerms items here = All-head (HasTerms items) here (pairs_in es) all in
+    let rest = none_known items es a b once (All-tail (HasTerms items) here (pairs_in es) all) p q (sym (passed a b e es t) ∙ none) in
+    by_test (nat_eq a.0 e.0.0.0)
+    (λ one.
+    let two : nat_eq b.0 e.0.1.0 ≡ false = sym (ap (λ c. c && nat_eq b.0 e.0.1.0) one) ∙ t in
+    second_false _ _ _ (other_trees _ _ (λ same. other_number b e.0.1 two (sym (term_once items e.0.1 b once terms.right q same)))) ∙ rest)
+    (λ one. first_false _ _ _ (other_trees _ _ (λ same. other_number a e.0.0 one (sym (term_once items e.0.0 a once terms.left p same)))) ∙ rest))
 
-pub none_by_right : (items : List Item) (ps qs : List Pair) (a b : Tree) (left k : ℕ) (p : Pair) → NoneFrom items ps a b left → left ≡ suc k → qs ≡ ps → p ≡ slice_index_or qs k p
-    → (tree_at items p.right ≡ b → ⊥) → NoneFrom items ps a b k
-none_by_right items ps qs a b left k p h e same at n =
-    let w = h.within in
-    let here = subst (λ x. p ≡ slice_index_or x k p) same at in
-    from_here items ps a b left k h e (not_second items ps k p a b (omega (arith, e, w)) (λ r. n (ap (λ (q : Pair). tree_at items q.right) here ∙ r)))
+-- the numbers of a pair that isn't known aren't there
+pub not_there : (items : List Item) (ps : List Pair) (a b : TermId) → is_known (pairs_of items ps) (tree_at items a) (tree_at items b) ≡ false → has_pair ps a b ≡ false
+not_there items [] a b h = refl
+not_there items (p ∷ ps) a b h =
+    by_test (is_pair a b (p.left, p.right))
+    (λ t.
+    let numbers = both_numbers a b (p.left, p.right) t in
+    let left : tree_at items p.left ≡ tree_at items a = ap (tree_at items) (sym (same_number a p.left numbers.0)) in
+    let right : tree_at items p.right ≡ tree_at items b = ap (tree_at items) (sym (same_number b p.right numbers.1)) in
+    absurd (true≢false (sym (both_true _ _ _ (equal_trees _ _ left) (equal_trees _ _ right)) ∙ h)))
+    (λ t. ap (λ c. c || has_pair ps a b) t ∙ not_there items ps a b (later_false _ _ h))
+
+pub free_in : (es : Entries) (a b : TermId) → has_pair (pairs_in es) a b ≡ false → lookup (is_pair a b) es ≡ None
+free_in [] a b h = refl
+free_in (e ∷ es) a b h =
+    by_test (is_pair a b e.0)
+    (λ t. absurd (true≢false (sym (ap (λ c. c || has_pair (pairs_in es) a b) t) ∙ h)))
+    (λ t. passed a b e es t ∙ free_in es a b (later_false _ _ h))
+
+pub pairs_in-push : (es : Entries) (e : (TermId × TermId) × EqId) → pairs_in (es ++ e ∷ []) ≡ pairs_in es ++ record { left = e.0.0; right = e.0.1; equal = e.1 } ∷ []
+pairs_in-push [] e = refl
+pairs_in-push (x ∷ es) e = ap (λ ps. record { left = x.0.0; right = x.0.1; equal = x.1 } ∷ ps) (pairs_in-push es e)
+
+pub length-pairs_in : (es : Entries) → length (pairs_in es) ≡ length es
+length-pairs_in [] = refl
+length-pairs_in (e ∷ es) = ap suc (length-pairs_in es)
 
 -- what adding a pair leaves
 pub kept_with : (old new : List Pair) (p : Pair) (result : Result (Unit {0}) NoMemory) → OnOk result (new ≡ old ++ p ∷ []) → OnErr result (new ≡ old) → IsKeptWith old new p

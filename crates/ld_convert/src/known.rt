@@ -1,10 +1,11 @@
 //! The pairs of terms that were found the same.
-ghost use Rattle.std.specs.Prelude.{◌≡◌, ◌++◌, ◌∷◌, [], All, false, OnOk, OnErr, MatchOption};
+ghost use Rattle.std.specs.Prelude.{◌≡◌, ◌++◌, ◌∷◌, [], length, All, false, OnOk, OnErr, MatchOption};
 ghost use Rattle.ld_terms.specs.Bank.{tree_at, IsTermAt};
 ghost use Rattle.ld_convert.specs.Known.{is_known};
-ghost use Rattle.ld_convert.specs.Pairs.{pairs_of, HasTerms, IsFound};
+ghost use Rattle.ld_convert.specs.Pairs.{pairs_of, has_pair, HasTerms, IsFound};
 
 use fb_base::NoMemory;
+use indexmap::IndexMap;
 use ld_record::EqId;
 use ld_terms::{Bank, TermId};
 use std::alloc::Global;
@@ -18,19 +19,20 @@ pub struct Pair {
     pub equal: EqId,
 }
 
-/// The pairs of an item that were found the same, each behind those found before.
+/// The pairs of an item that were found the same, each behind those found before, with the equality of each.
 #[derive(Debug, Drop)]
 pub struct Known {
-    pairs: Vec<Pair>,
+    equals: IndexMap<(TermId, TermId), EqId>,
 }
 
 impl Model for Known {
     ghost use Rattle.std.specs.Prelude.{List};
     ghost use Rattle.ld_convert.specs.declared.known.Pair.{Pair};
+    ghost use Rattle.ld_convert.specs.Pairs.{pairs_in};
 
     ghost Value = { List Pair };
 
-    ghost view = { λ k. k.pairs.items };
+    ghost view = { λ k. pairs_in k.equals.entries };
 }
 
 impl Known {
@@ -39,19 +41,18 @@ impl Known {
         ensures { result ≡ [] }
     {
         Known {
-            pairs: Vec::new(alloc),
+            equals: IndexMap::new(alloc),
         }
     }
 
-    /// The pairs, in their order.
-    pub fn as_slice(&self) -> &[Pair]
-        ensures { result.now ≡ self.now }
+    /// How many pairs there are.
+    pub fn len(&self) -> usize
+        ensures { result ≡ length self.now }
     {
-        &self.pairs
+        self.equals.len()
     }
 
-    /// The equality of a pair that has the trees of these terms: the last one, as what was found the same last is most
-    /// often asked for next.
+    /// The equality of the pair that has the trees of these terms.
     pub fn find(&self, bank: &Bank, a: TermId, b: TermId) -> Option<EqId>
         requires pairs { All (HasTerms bank.now) self.now }
         requires first { IsTermAt bank.now a }
@@ -59,22 +60,22 @@ impl Known {
         ensures { MatchOption result (is_known (pairs_of bank.now self.now) (tree_at bank.now a) (tree_at bank.now b) ≡ false)
             (IsFound bank.now self.now (tree_at bank.now a) (tree_at bank.now b)) }
     {
-        let mut left = self.pairs.len();
-        while left > 0 {
-            left -= 1;
-            let pair = self.pairs[left];
-            if bank.same(pair.left, a) && bank.same(pair.right, b) {
-                return Some(pair.equal);
-            }
+        bank.keeps_once();
+        match self.equals.get(&(a, b)) {
+            Some(equal) => Some(*equal),
+            None => None,
         }
-        None
     }
 
     /// Adds a pair at the end.
     pub fn add(&mut self, pair: Pair) -> Result<(), NoMemory>
+        requires { has_pair self.old pair.left pair.right ≡ false }
         ensures ok { OnOk result (self.new ≡ self.old ++ pair ∷ []) }
         ensures err { OnErr result (self.new ≡ self.old) }
     {
-        self.pairs.push(pair).map_err(|_| NoMemory)
+        self.equals
+            .insert((pair.left, pair.right), pair.equal)
+            .map_err(|_| NoMemory)?;
+        Ok(())
     }
 }

@@ -6,7 +6,7 @@ ghost use Rattle.ld_convert.specs.Pairs.{HasTerms};
 ghost use Rattle.ld_convert.specs.Walks.{IsLivePart};
 
 use crate::tests::{instance, two_under_binders};
-use crate::{Known, Pair, Part, congruence, gather, remember, same_at_once};
+use crate::{Known, Part, congruence, gather, remember, same_at_once};
 use fb_base::NoMemory;
 use ld_record::{Deriv, EqId};
 use ld_terms::{Bank, Node, TermFault, TermId};
@@ -155,19 +155,16 @@ fn keep_pairs(
     requires pairs { All (HasTerms bank.now) known.old }
     requires first { IsTermAt bank.now arguments.0 }
     requires second { IsTermAt bank.now arguments.1 }
-    requires whole { IsTermAt bank.now wholes.1 }
+    requires whole { IsTermAt bank.now wholes.0 }
+    requires other { IsTermAt bank.now wholes.1 }
 {
     keep(bank, known, arguments, equals.0)?;
     keep(bank, known, arguments, equals.1)?;
-    let once = known.as_slice().len();
+    let once = known.len();
     let found = known.find(bank, arguments.0, arguments.1);
     let none = known.find(bank, arguments.0, wholes.1);
-    known.add(Pair {
-        left: wholes.0,
-        right: wholes.1,
-        equal: equals.1,
-    })?;
-    Ok((once, found, none, known.as_slice().len()))
+    keep(bank, known, wholes, equals.1)?;
+    Ok((once, found, none, known.len()))
 }
 
 #[test]

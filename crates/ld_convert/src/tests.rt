@@ -52,7 +52,7 @@ pub(crate) fn comparison(
         Err(stop) => Err(stop),
     };
     let steps = (job.budget.left(), job.budget.spent());
-    (found, steps, job.known.as_slice().len())
+    (found, steps, job.known.len())
 }
 
 // One comparison over the lines.

@@ -82,6 +82,9 @@ impl Bank {
         ensures small { IfOk result (λ r. IsSmall (item_at self.new r)) }
         ensures high { result ≡ Err TermFault.High → ¬ IsSmall (put_item (item_at self.old t) (list_at self.old us) below) }
     {
+        if self.reach(t) <= below {
+            return Ok(t);
+        }
         match self.node(t) {
             Node::Var(i) if i < below => self.add(Node::Var(i)),
             Node::Var(i) => self.place(us, i - below, below),

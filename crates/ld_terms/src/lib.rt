@@ -11,5 +11,5 @@ mod term_list;
 #[cfg(test)]
 mod tests;
 
-pub use bank::{Bank, Node, TermFault, TermId};
+pub use bank::{Bank, Mark, Node, TermFault, TermId};
 pub use term_list::Terms;

@@ -17,6 +17,9 @@ impl Bank {
         ensures small { IfOk result (λ r. IsSmall (item_at self.new r)) }
         ensures high { result ≡ Err TermFault.High → ¬ IsSmall (lift_item (item_at self.old t) by from) }
     {
+        if self.reach(t) <= from {
+            return Ok(t);
+        }
         match self.node(t) {
             Node::Var(i) => self.lift_variable(i, by, from),
             Node::App(f, u) => {

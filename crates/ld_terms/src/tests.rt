@@ -103,7 +103,7 @@ fn compare_trees(rt: &impl Abort, bank: &mut Bank) -> Result<(), Fail> {
     assert!(rt; bank.same(first, again));
     assert!(rt; !bank.same(first, second));
     assert!(rt; !bank.same(first, without));
-    assert_eq!(rt; bank.len(), 7);
+    assert_eq!(rt; bank.len(), 6);
     Ok(())
 }
 

@@ -1,0 +1,13 @@
+pub mod Items
+pub mod Work
+pub mod Steps
+pub mod Places
+pub mod Spells
+pub mod Unfolded
+pub mod Shown
+pub mod Laws
+pub mod Small
+pub mod Long
+pub mod Once
+pub mod Named
+pub mod Agreement

@@ -1,0 +1,4 @@
+//! A term as flag items.
+#![tactic(auto)]
+
+pub mod laws;
