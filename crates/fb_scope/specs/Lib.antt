@@ -1,3 +1,4 @@
 pub mod State
 pub mod Resolve
 pub mod Kept
+pub mod Names

@@ -1,0 +1,11 @@
+mod Bases
+mod Fills
+mod Levels
+mod NamesOk
+mod Places
+mod ReadTerms
+mod Taken
+mod TextsOf
+mod Trees
+mod Utf8
+mod Writes

@@ -1,0 +1,4 @@
+use Rattle.fb_show.proofs.cut.+cut_at.Given as goal
+
+abbrev pub decreases-cut_at : goal.decreases-cut_at
+decreases-cut_at l = l.n

@@ -1,0 +1,6 @@
+use Rattle.std.proofs.Common.{◌≡◌, replicate}
+use Rattle.std.specs.String.{string_bytes}
+use Rattle.fb_show.proofs.names.repeated.Given as goal
+
+abbrev pub invariant-loop : goal.invariant-loop
+invariant-loop l = string_bytes l.text ≡ replicate l.counter l.letter

@@ -1,0 +1,11 @@
+//! The surface tree that shows a term.
+#![tactic(auto)]
+
+mod cut;
+mod filling;
+pub mod laws;
+mod level;
+mod names;
+mod term;
+
+pub use term::show;
