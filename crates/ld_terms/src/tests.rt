@@ -124,3 +124,38 @@ fn keeps_a_list(rt: HostRuntime) -> Result<(), Fail> {
     assert_eq!(rt; list.as_slice(), [star, over].as_slice());
     Ok(())
 }
+
+fn cut_back(rt: &impl Abort, bank: &mut Bank) -> Result<(), Fail> {
+    let star = bank.add(Node::Star)?;
+    let mark = bank.mark();
+    let pair = bank.add(Node::App(star, star))?;
+    bank.cut(mark);
+    assert_eq!(rt; bank.len(), 1);
+    let square = bank.add(Node::Box_)?;
+    assert_eq!(rt; square.number(), pair.number());
+    assert!(rt; !bank.same(square, star));
+    Ok(())
+}
+
+#[test]
+fn cuts_back(rt: HostRuntime) -> Result<(), Fail> {
+    cut_back(&rt, &mut Bank::new(rt.alloc()))
+}
+
+// `fun *, 0 3` reaches two further than its own variable.
+fn look_outside(rt: &impl Abort, bank: &mut Bank) -> Result<(), Fail> {
+    let star = bank.add(Node::Star)?;
+    let bound = bank.add(Node::Var(0))?;
+    let free = bank.add(Node::Var(3))?;
+    let pair = bank.add(Node::App(bound, free))?;
+    let function = bank.add(Node::Lam(star, pair))?;
+    assert_eq!(rt; bank.reach(star), 0);
+    assert_eq!(rt; bank.reach(pair), 4);
+    assert_eq!(rt; bank.reach(function), 3);
+    Ok(())
+}
+
+#[test]
+fn looks_outside(rt: HostRuntime) -> Result<(), Fail> {
+    look_outside(&rt, &mut Bank::new(rt.alloc()))
+}
