@@ -61,10 +61,6 @@ at_front text front n s e p q r =
     let start : length p.0 ≡ s = omega (arith, q, ap length p.1, length-append p.0 front) in
     ap (λ v. take v (drop s text)) (let m : e - s ≡ n = omega (arith, r) in m) ∙ ap (λ v. take n (drop s v)) p.1 ∙ ap (take n) (drop_at p.0 front s start)
 
-name_is : (kind : Kind) → is_name kind ≡ true → kind ≡ k.Name
-name_is k.Name h = refl
-name_is _ h = absurd (false≢true h)
-
 front_within : {t : Bool} {text rest : List ℕ} {kind : Kind} → Front t text kind rest → is_name kind ≡ true → length (take (length text - length rest) text) ≡ length text - length rest
 front_within {t} {text} {rest} p h = length-take-le (length text - length rest) text (omega arith)
 

@@ -23,9 +23,11 @@ line_feed_at n = record { kind = k.Newline; span = record { start = n; end = n +
 
 -- The tokens of the one text, in place of its end the line feed, and then what is read behind that.
 abbrev pub TextsJoin : Type 0
-TextsJoin = (text behind : List ℕ) (ts us : List Lexeme) (e : Ending) → Tokens text ts Whole → TokensBehind (text ++ codes "\n" ++ behind) (Some (line_feed_at (length text))) us e →
+TextsJoin = (text behind : List ℕ) (ts us : List Lexeme) (e : Ending) → Tokens text ts Whole →
+    TokensBehind (text ++ codes "\n" ++ behind) (Some (line_feed_at (length text))) us e →
     Tokens (text ++ codes "\n" ++ behind) (go_on (sign k.Newline (length text) (length text + 1) ∷ us) ts) e
 
 -- Such tokens are the items of both.
 abbrev pub BooksJoin : Type 0
-BooksJoin = (limit s e : ℕ) (ts us : List Lexeme) (items others : List SurfaceItem) → IsBook limit ts items → IsBook limit us others → IsBook limit (go_on (sign k.Newline s e ∷ us) ts) (items ++ others)
+BooksJoin = (limit s e : ℕ) (ts us : List Lexeme) (items others : List SurfaceItem) →
+    IsBook limit ts items → IsBook limit us others → IsBook limit (go_on (sign k.Newline s e ∷ us) ts) (items ++ others)

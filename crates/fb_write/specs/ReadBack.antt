@@ -25,21 +25,24 @@ GivenTermsAreWritable = (text : List ℕ) (a : Surface) → IsTermText text a �
 abbrev pub TermsReadBack : Type 0
 TermsReadBack = (a : Surface) → IsWritable 1 a → ReadsAs (term_text a) a
 
--- Whether a tree is writable doesn't depend on its spans, and nor does it of an item.
+-- Whether a term is writable doesn't depend on its spans.
 abbrev pub SpansDontCount : Type 0
 SpansDontCount = (a b : Surface) → bare a ≡ bare b → IsWritable 1 a → IsWritable 1 b
 
--- The items of a book are writable, and writable ones, up to 100,000, are read from their canonical texts.
+-- The items of a book are writable, and writable ones, 100,000 at most, are read from their canonical texts.
 abbrev pub GivenItemsAreWritable : Type 0
 GivenItemsAreWritable = (text : List ℕ) (items : List SurfaceItem) → IsBookText text items → AreWritableItems items
 
+-- Whether an item is writable doesn't depend on its spans.
 abbrev pub ItemSpansDontCount : Type 0
 ItemSpansDontCount = (i j : SurfaceItem) → bare_item i ≡ bare_item j → IsWritableItem i → IsWritableItem j
 
 abbrev pub ItemsReadBack : Type 0
-ItemsReadBack = (items : List SurfaceItem) → AreWritableItems items → length items ≤ 100_000 → ReadsAsBook (items_text items) [] items
+ItemsReadBack = (items : List SurfaceItem) → AreWritableItems items → length items ≤ 100_000 →
+    ReadsAsBook (items_text items) [] items
 
 -- A book goes on behind a line feed with the canonical texts of further items.
 abbrev pub BooksGoOn : Type 0
-BooksGoOn = (text : List ℕ) (items others : List SurfaceItem) → IsBookText text items → AreWritableItems others → length items + length others ≤ 100_000 →
+BooksGoOn = (text : List ℕ) (items others : List SurfaceItem) → IsBookText text items →
+    AreWritableItems others → length items + length others ≤ 100_000 →
     ReadsAsBook (text ++ codes "\n" ++ items_text others) items others

@@ -43,7 +43,8 @@ mutual
   -- as arguments of an application of this nesting
   pub data AreArguments : ℕ → Surfaces → Type 0 where
     no_argument : {n : ℕ} → AreArguments n none
-    argument : {n : ℕ} {a : Surface} {us : Surfaces} → IsWritable (inside (is_compound a) n) a → AreArguments n us → AreArguments n (more a us)
+    argument : {n : ℕ} {a : Surface} {us : Surfaces} → IsWritable (inside (is_compound a) n) a → AreArguments n us →
+        AreArguments n (more a us)
 
 pub data IsWritableArg : SurfaceArg → Type 0 where
   hole : {s : Span} → IsWritableArg (Hole s)
@@ -56,7 +57,8 @@ pub data AreWritableArgs : List SurfaceArg → Type 0 where
 pub data IsWritableBody : SurfaceBody → Type 0 where
   plain : {a : Surface} → IsWritable 1 a → IsWritableBody (Plain a)
   intro : {s : Span} {w : List ℕ} → IsName w → IsWritableBody (Intro s w)
-  elimination : {f a : Surface} {us : Surfaces} → IsWritable 1 f → IsWritable 1 a → AreWritable 1 us → IsWritableBody (Elim (more f (more a us)))
+  elimination : {f a : Surface} {us : Surfaces} → IsWritable 1 f → IsWritable 1 a → AreWritable 1 us →
+      IsWritableBody (Elim (more f (more a us)))
   same : {a : Surface} → IsWritable 1 a → IsWritableBody (Same a)
   fill : {s : Span} {c : List ℕ} {args : List SurfaceArg} → IsName c → AreWritableArgs args → IsWritableBody (Fill s c args)
 

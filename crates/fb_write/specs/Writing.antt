@@ -1,7 +1,7 @@
 -- What parts of the code append.
 use Rattle.std.specs.Prelude.{ℕ, Bool, true, false, List, [], ◌∷◌, ◌++◌, codes}
 use Rattle.fb_parse.specs.Grammar.{Surfaces}
-use Rattle.fb_parse.specs.Items.{SurfaceArg, SurfaceBody, Intro, Fill, SurfaceKind, Prim, Line, SurfaceItem}
+use Rattle.fb_parse.specs.Items.{SurfaceArg, SurfaceBody, Intro, Fill, SurfaceKind, Line, SurfaceItem}
 use Rattle.fb_parse.specs.Standing.{LiesIn}
 use Rattle.fb_write.specs.Canonical.{terms_text, more_terms_text, arg_text, more_args_text}
 
