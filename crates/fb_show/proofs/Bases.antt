@@ -104,12 +104,12 @@ passed : (tries letter n m : ℕ) (xs : List (List ℕ)) → n ≤ m → m < lea
 passed zero letter n m xs from to = absurd (omega (arith, from, to))
 passed (suc tries) letter n m xs from to = ⊎_elim
     (λ taken. ⊎_elim
-        (λ after. passed tries letter (suc n) m xs (omega (arith, after))
-        (subst (λ v. m < v) (if_true (is_taken letter n xs) (least_free tries letter (suc n) xs) n taken) to))
-        (λ here. let same : n ≡ m = omega (arith, from, here) in ap (λ v. is_taken letter v xs) (sym same) ∙ taken)
-        (cases_lt n m))
+    (λ after. passed tries letter (suc n) m xs (omega (arith, after))
+    (subst (λ v. m < v) (if_true (is_taken letter n xs) (least_free tries letter (suc n) xs) n taken) to))
+    (λ here. let same : n ≡ m = omega (arith, from, here) in ap (λ v. is_taken letter v xs) (sym same) ∙ taken)
+    (cases_lt n m))
     (λ free. absurd (let stop : m < n = subst (λ v. m < v) (if_false (is_taken letter n xs) (least_free tries letter (suc n) xs) n free) to in
-        omega (arith, from, stop)))
+    omega (arith, from, stop)))
     (cases (is_taken letter n xs))
 
 pub least_at_least : (tries letter n : ℕ) (xs : List (List ℕ)) → n ≤ least_free tries letter n xs
@@ -122,9 +122,9 @@ base_is_least letter names l = record {
   some = least_at_least (length names) letter 1 names;
   free = base_is_free letter names l;
   least = λ m from free. ⊎_elim
-    (λ before. absurd (false≢true (sym free ∙ passed (length names) letter 1 m names from before)))
-    (λ after. after)
-    (cases_lt m (base_length letter names));
+      (λ before. absurd (false≢true (sym free ∙ passed (length names) letter 1 m names from before)))
+      (λ after. after)
+      (cases_lt m (base_length letter names));
 }
 
 -- digits
