@@ -1,17 +1,18 @@
 -- The base is free: no name has its letters before digits. Each name has one number of letters before anything else, so each turn of the
 -- search leaves fewer names with as many letters.
-use Rattle.std.proofs.Common.{◌≡◌, ℕ, zero, suc, ◌+◌, ◌<◌, ◌≤◌, ◌⊎◌, ⊎_elim, inl, inr, ◌==◌, Bool, true, false, ◌&&◌, ◌||◌, nat_le, if◌then◌else◌, List, [], ◌∷◌, ◌++◌, length, refl, ap, ◌∙◌, sym, arith}
+use Rattle.std.proofs.Common.{◌≡◌, ℕ, zero, suc, ◌+◌, ◌<◌, ◌≤◌, ◌⊎◌, ⊎_elim, inl, inr, ◌==◌, Bool, true, false, ◌&&◌, ◌||◌, nat_le, if◌then◌else◌, List, [], ◌∷◌, ◌++◌, length, refl, ap, ◌∙◌, sym, subst, arith}
 use Rattle.std.specs.Prelude.{replicate, decimal, slice_get, Some, ◌^◌}
 use Rattle.std.specs.Char.{is_ascii_digit}
 use Rattle.std.specs.Str.{all_ascii_digits}
 use Rattle.std.specs.Str.Parse.{AllDigits}
-use Rattle.std.proofs.lemmas.Bool.{false≢true}
+use Rattle.std.proofs.lemmas.Bool.{false≢true, cases_lt}
 use Rattle.std.proofs.lemmas.Bool.Decides.{nat_tests}
 use Rattle.std.proofs.lemmas.Fmt.{decimal_is_IsNumeral}
 use Rattle.std.proofs.lemmas.List.Folds.{list_any_at}
 use Rattle.std.proofs.lemmas.Option.{slice_get_within, get_or_from_slice_get}
 use Rattle.std.proofs.lemmas.Str.Parse.{digit_from_value}
 use Rattle.fb_show.specs.Display.{is_numbered, is_taken, least_free, base_length, base}
+use Rattle.fb_show.specs.Laws.{IsLeastFree}
 
 -- how many of the letters a name begins with
 abbrev run : ℕ → List ℕ → ℕ
@@ -49,7 +50,7 @@ if_false c x y h = rw h refl
 digit_no_letter : (letter d : ℕ) → is_ascii_digit letter ≡ false → is_ascii_digit d ≡ true → (d == letter) ≡ false
 digit_no_letter letter d n h = ⊎_elim (λ e. let same : d ≡ letter = grind (arith, nat_tests) in absurd (false≢true (sym n ∙ ap is_ascii_digit (sym same) ∙ h))) (λ e. e) (cases (d == letter))
 
-pub numbered_run : (letter n : ℕ) (x : List ℕ) → is_ascii_digit letter ≡ false → is_numbered letter n x ≡ true → run letter x ≡ n
+numbered_run : (letter n : ℕ) (x : List ℕ) → is_ascii_digit letter ≡ false → is_numbered letter n x ≡ true → run letter x ≡ n
 numbered_run letter zero [] l h = absurd (false≢true h)
 numbered_run letter zero (d ∷ ds) l h = if_false (d == letter) (suc (run letter ds)) 0 (digit_no_letter letter d l (both_true (is_ascii_digit d) (all_ascii_digits ds) h).0)
 numbered_run letter (suc n) [] l h = absurd (false≢true h)
@@ -95,11 +96,39 @@ least_is_free (suc tries) letter n xs l h = ⊎_elim
     (λ e. let f : least_free (suc tries) letter n xs ≡ n = if_false (is_taken letter n xs) (least_free tries letter (suc n) xs) n e in ap (λ v. is_taken letter v xs) f ∙ e)
     (cases (is_taken letter n xs))
 
-pub base_is_free : (letter : ℕ) (names : List (List ℕ)) → is_ascii_digit letter ≡ false → is_taken letter (base_length letter names) names ≡ false
+base_is_free : (letter : ℕ) (names : List (List ℕ)) → is_ascii_digit letter ≡ false → is_taken letter (base_length letter names) names ≡ false
 base_is_free letter names l = least_is_free (length names) letter 1 names l (above_all letter 1 names)
 
+-- each number of letters that the search passed is taken
+passed : (tries letter n m : ℕ) (xs : List (List ℕ)) → n ≤ m → m < least_free tries letter n xs → is_taken letter m xs ≡ true
+passed zero letter n m xs from to = absurd (omega (arith, from, to))
+passed (suc tries) letter n m xs from to = ⊎_elim
+    (λ taken. ⊎_elim
+    (λ after. passed tries letter (suc n) m xs (omega (arith, after))
+    (subst (λ v. m < v) (if_true (is_taken letter n xs) (least_free tries letter (suc n) xs) n taken) to))
+    (λ here. let same : n ≡ m = omega (arith, from, here) in ap (λ v. is_taken letter v xs) (sym same) ∙ taken)
+    (cases_lt n m))
+    (λ free. absurd (let stop : m < n = subst (λ v. m < v) (if_false (is_taken letter n xs) (least_free tries letter (suc n) xs) n free) to in
+    omega (arith, from, stop)))
+    (cases (is_taken letter n xs))
+
+pub least_at_least : (tries letter n : ℕ) (xs : List (List ℕ)) → n ≤ least_free tries letter n xs
+least_at_least zero letter n xs = omega arith
+least_at_least (suc tries) letter n xs = ⊎_elim
+    (λ e. rw e (let l = least_at_least tries letter (suc n) xs in omega (arith, l))) (λ e. rw e (omega arith)) (cases (is_taken letter n xs))
+
+pub base_is_least : (letter : ℕ) (names : List (List ℕ)) → is_ascii_digit letter ≡ false → IsLeastFree letter names (base_length letter names)
+base_is_least letter names l = record {
+  some = least_at_least (length names) letter 1 names;
+  free = base_is_free letter names l;
+  least = λ m from free. ⊎_elim
+      (λ before. absurd (false≢true (sym free ∙ passed (length names) letter 1 m names from before)))
+      (λ after. after)
+      (cases_lt m (base_length letter names));
+}
+
 -- digits
-pub digits_are : (ds : List ℕ) → AllDigits 10 ds → all_ascii_digits ds ≡ true
+digits_are : (ds : List ℕ) → AllDigits 10 ds → all_ascii_digits ds ≡ true
 digits_are [] h = refl
 digits_are (c ∷ cs) h = let v = digit_from_value c h.0 in let d : is_ascii_digit c ≡ true = grind (arith, nat_tests) in rw d (digits_are cs h.1)
 
@@ -113,7 +142,7 @@ some_digits letter (d ∷ ds) some h = h
 same_letter : (letter : ℕ) → (letter == letter) ≡ true
 same_letter letter = grind (arith, nat_tests)
 
-pub letters_numbered : (letter n : ℕ) (ds : List ℕ) → 0 < length ds → all_ascii_digits ds ≡ true → is_numbered letter n (replicate n letter ++ ds) ≡ true
+letters_numbered : (letter n : ℕ) (ds : List ℕ) → 0 < length ds → all_ascii_digits ds ≡ true → is_numbered letter n (replicate n letter ++ ds) ≡ true
 letters_numbered letter zero ds some h = some_digits letter ds some h
 letters_numbered letter (suc n) ds some h = rw (same_letter letter) (letters_numbered letter n ds some h)
 

@@ -4,6 +4,7 @@ mod Levels
 mod NamesOk
 mod Places
 mod ReadTerms
+mod SampleNames
 mod Taken
 mod TextsOf
 mod Trees

@@ -1,5 +1,5 @@
 -- The name of a level is one Name token: it begins with x, which no reserved word does.
-use Rattle.std.proofs.Common.{◌≡◌, ℕ, zero, suc, ◌-◌, ◌<◌, ◌≤◌, ◌⊎◌, ⊎_elim, inl, inr, ◌==◌, Bool, true, false, ◌&&◌, ◌||◌, List, [], ◌∷◌, ◌++◌, length, refl, ◌∙◌, subst, arith}
+use Rattle.std.proofs.Common.{◌≡◌, ℕ, zero, suc, ◌-◌, ◌<◌, ◌≤◌, ◌==◌, Bool, true, false, ◌&&◌, ◌||◌, List, [], ◌∷◌, ◌++◌, length, refl, ◌∙◌, subst, arith}
 use Rattle.std.specs.Prelude.{decimal, replicate, ◌^◌}
 use Rattle.std.specs.Char.{is_ascii_alphanumeric, is_ascii_digit}
 use Rattle.std.specs.Str.{all_ascii_digits, byte}
@@ -13,8 +13,8 @@ use Rattle.fb_lex.proofs.Characters.{continued_none, continued_more}
 use Rattle.fb_write.specs.Writable.{IsName}
 use Rattle.fb_write.proofs.Ahead.{ends_apart}
 use Rattle.fb_write.proofs.Words.{ascii_begins}
-use Rattle.fb_show.specs.Display.{is_taken, least_free, base_length, level_name}
-use Rattle.fb_show.proofs.Bases.{decimal_digits}
+use Rattle.fb_show.specs.Display.{base_length, level_name}
+use Rattle.fb_show.proofs.Bases.{decimal_digits, least_at_least}
 
 letter : (c : ℕ) {text : List ℕ} → c < 128 → (is_ascii_alphanumeric c || c == 95) ≡ true → Continued text [] → Continued (c ∷ text) []
 letter c {text} l h w = continued_more (ascii_begins c text l) (rw (is_xid_continue-ascii c l, h) refl) w
@@ -41,23 +41,15 @@ letters_continued (suc n) ds h = letter 120 (omega arith) refl (letters_continue
 no_word : (text : List ℕ) → word_kind (120 ∷ text) ≡ k.Name
 no_word text = refl
 
-front : (n : ℕ) (ds : List ℕ) → 0 < n → all_ascii_digits ds ≡ true → Front false (replicate n 120 ++ ds) k.Name []
-front zero ds l h = absurd (omega (arith, l))
-front (suc n) ds l h =
+pub numbered_front : (n : ℕ) (ds : List ℕ) → 0 < n → all_ascii_digits ds ≡ true → Front false (replicate n 120 ++ ds) k.Name []
+numbered_front zero ds l h = absurd (omega (arith, l))
+numbered_front (suc n) ds l h =
     let text = replicate n 120 ++ ds in
     subst (λ v. Front false (120 ∷ text) (word_kind v) []) (take_all (length (120 ∷ text) - 0) (120 ∷ text) (omega arith))
     (Front.word (ascii_begins 120 text (omega arith)) (is_xid_start-ascii 120 (omega arith) ∙ refl) (letters_continued n ds h))
 
-cases : (x : Bool) → (x ≡ true) ⊎ (x ≡ false)
-cases true = inl refl
-cases false = inr refl
-
-least_at_least : (tries letter n : ℕ) (xs : List (List ℕ)) → n ≤ least_free tries letter n xs
-least_at_least zero letter n xs = omega arith
-least_at_least (suc tries) letter n xs = ⊎_elim (λ e. rw e (let l = least_at_least tries letter (suc n) xs in omega (arith, l))) (λ e. rw e (omega arith)) (cases (is_taken letter n xs))
-
 pub level_is_name : (names : List (List ℕ)) (i : ℕ) → suc i < 2 ^ 64 → length (level_name names i) ≤ 255 → IsName (level_name names i)
 level_is_name names i l short = record {
-  front = front (base_length (byte "x") names) (decimal (suc i)) (let m = least_at_least (length names) (byte "x") 1 names in omega (arith, m)) (decimal_digits (suc i) l);
+  front = numbered_front (base_length (byte "x") names) (decimal (suc i)) (let m = least_at_least (length names) (byte "x") 1 names in omega (arith, m)) (decimal_digits (suc i) l);
   short = short;
 }

@@ -1,5 +1,6 @@
 -- The surface tree that shows a term, and the names of its variables.
-use Rattle.std.specs.Prelude.{ℕ, zero, suc, ◌-◌, Bool, true, false, ◌&&◌, not, ◌==◌, if◌then◌else◌, List, [], ◌∷◌, ◌++◌, length, replicate, Option, Some, None, slice_get, slice_index_or, decimal}
+use Rattle.std.specs.Prelude.{ℕ, zero, suc, ◌-◌, decimal, Bool, true, false, ◌&&◌, not, ◌==◌, if◌then◌else◌}
+use Rattle.std.specs.Prelude.{List, [], ◌∷◌, ◌++◌, length, replicate, Option, Some, None, slice_get, slice_index_or}
 use Rattle.std.specs.Str.{all_ascii_digits, byte}
 use Rattle.std.specs.List.{list_any}
 use Rattle.ld_terms.specs.Tree as tree

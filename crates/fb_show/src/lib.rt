@@ -7,5 +7,7 @@ pub mod laws;
 mod level;
 mod names;
 mod term;
+#[cfg(test)]
+mod tests;
 
 pub use term::show;

@@ -106,7 +106,8 @@ fn spine<'a>(
     requires names { AreNames (names_of env.now) }
     requires room { depth + height_of (item_at bank.now t) < 2 ^ 64 }
     requires none { args.old.items ≡ [] }
-    ensures whole { IfOk result (λ r. whole (view r) (views args.new.items) ≡ shown (numbered base.now) (names_of env.now) depth (tree_at bank.now t)) }
+    ensures whole { IfOk result (λ r. whole (view r) (views args.new.items)
+        ≡ shown (numbered base.now) (names_of env.now) depth (tree_at bank.now t)) }
     ensures head { IfOk result (λ r. is_apply (view r) ≡ false) }
 {
     match bank.node(t) {
