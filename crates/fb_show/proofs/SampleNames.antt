@@ -1,8 +1,9 @@
 -- Names of entries in tests.
-use Rattle.std.proofs.Common.{◌≡◌, ℕ, zero, suc, List, [], ◌∷◌, ◌++◌, Some, length, slice_get, refl, ap, subst, ◌∙◌, arith}
-use Rattle.std.specs.Prelude.{codes, map}
+use Rattle.std.proofs.Common.{◌≡◌, ℕ, zero, suc, ◌<◌, true, false, List, [], ◌∷◌, ◌++◌, Some, length, slice_get, refl, ap, subst, ◌∙◌, arith}
+use Rattle.std.specs.Prelude.{codes}
 use Rattle.unicode_ident.proofs.IdentLemmas.{is_xid_start-ascii}
-use Rattle.fb_lex.specs.Tokens.{Front}
+use Rattle.std.specs.Char.{is_ascii_alphabetic}
+use Rattle.fb_lex.specs.Tokens.{Front, word_kind}
 use Rattle.fb_lex.proofs.Characters.{continued_none}
 use Rattle.fb_write.specs.Writable.{IsName}
 use Rattle.fb_write.proofs.Ahead.{ends_apart}
@@ -13,11 +14,20 @@ use Rattle.fb_show.specs.Laws.{AreNames}
 use Rattle.fb_show.specs.Shown.{params_of}
 use Rattle.fb_show.proofs.NamesOk.{numbered_front}
 
+letter_front : (c : ℕ) → c < 128 → is_ascii_alphabetic c ≡ true → Front false (c ∷ []) (word_kind (c ∷ [])) []
+letter_front c low h = Front.word (ascii_begins c [] low) (is_xid_start-ascii c low ∙ h) (continued_none (ends_apart [] refl))
+
 pub a_name : IsName (codes "a")
-a_name = record { front = Front.word (ascii_begins 97 [] (omega arith)) (is_xid_start-ascii 97 (omega arith) ∙ refl) (continued_none (ends_apart [] refl)); short = omega arith }
+a_name = record {
+  front = letter_front 97 (omega arith) refl;
+  short = omega arith;
+}
 
 pub c_name : IsName (codes "c")
-c_name = record { front = Front.word (ascii_begins 99 [] (omega arith)) (is_xid_start-ascii 99 (omega arith) ∙ refl) (continued_none (ends_apart [] refl)); short = omega arith }
+c_name = record {
+  front = letter_front 99 (omega arith) refl;
+  short = omega arith;
+}
 
 pub x1_name : IsName (codes "x1")
 x1_name = record { front = numbered_front 1 (codes "1") (omega arith) refl; short = omega arith }
@@ -34,7 +44,8 @@ one_more_name [] n h m (suc k) x at = absurd cc
 one_more_name (e ∷ env) n h m zero x at = h 0 x at
 one_more_name (e ∷ env) n h m (suc k) x at = one_more_name env n (λ k x at. h (suc k) x at) m k x at
 
-pub params_number : (env : List Named) (k n : ℕ) (e : Entry) → slice_get (entries_of env) k ≡ Some e → length e.params ≡ n → slice_get (params_of env) k ≡ Some n
+pub params_number : (env : List Named) (k n : ℕ) (e : Entry) →
+    slice_get (entries_of env) k ≡ Some e → length e.params ≡ n → slice_get (params_of env) k ≡ Some n
 params_number [] k n e at same = absurd cc
 params_number (x ∷ env) zero n e at same = let here : x.entry ≡ e = cc in ap (λ v. Some (length v.params)) here ∙ ap Some same
 params_number (x ∷ env) (suc k) n e at same = params_number env k n e at same
