@@ -8,11 +8,11 @@ use Rattle.clap.specs.declared.parser.matches.Found.{Found}
 use Rattle.clap.proofs.WalkLemmas.{first_value-rows}
 use Rattle.clap.specs.Simple.{matches_of}
 use Rattle.clap.specs.Faults.{fault_of}
-use Rattle.book_top.specs.CommandLine.{line, Exceeds, IsGiven, AskCheck, AskVerify, AskNothing, AskFor, AreAsked}
-use Rattle.book_top.specs.Words.{is_option, listed, Arranges, none, positional, budget, joined, rest, HasBudget, IsCheck, IsVerify, IsNoCommand}
-use Rattle.book_top.specs.declared.words.Command.{Command}
+use Rattle.book_top.specs.CommandLine.{line, Exceeds, IsGiven, AskFor, AreAsked}
+use Rattle.book_top.specs.Words.{is_option, listed, Arranges, none, positional, budget, joined, rest, HasBudget, default, stated}
+use Rattle.book_top.specs.Command.{Command, Check, Verify, positionals_of, TakesBudget, IsAskedBy, Asks, IsNoCommand}
+use Rattle.book_top.specs.declared.command.Command as code
 use Rattle.book_top.specs.declared.words.Given.{Given}
-use Rattle.book_top.specs.declared.words.Command.TheVariants as command
 use Rattle.book_top.proofs.Arranged.{AreUtf8, here, all_pass}
 use Rattle.book_top.proofs.LineWalk.{first}
 use Rattle.book_top.proofs.GivenRows.{gives_rows, fault_is}
@@ -123,34 +123,37 @@ module _ (words : List Text) where
 
 -- ---- what the words ask for
 
-pub not_both : {words : List Text} (book out deriv : Text) (n : ℕ) → IsCheck words book out n → IsVerify words deriv → ⊥
-not_both book out deriv n check verify = apart (arranged_once check.arranges verify.arranges).0
-  where
-    apart : ◌≡◌ {A = List Text} (codes "check" ∷ book ∷ out ∷ []) (codes "verify" ∷ deriv ∷ []) → ⊥
-    apart e = cc
+-- positionals and a budget ask for one command
+one_command : (c d : Command) (n : ℕ) → positionals_of c ≡ positionals_of d → TakesBudget c n → TakesBudget d n → c ≡ d
+one_command (Check book out m) (Check b o k) n e takes also = cc (e, takes, also)
+one_command (Check book out m) (Verify deriv) n e takes also = absurd (cc)
+one_command (Verify deriv) (Check b o k) n e takes also = absurd (cc)
+one_command (Verify deriv) (Verify d) n e takes also = cc
 
-pub nothing_asked : {words ps bs : List Text} → Arranges words ps bs → AskNothing ps bs → IsNoCommand words
-nothing_asked h unasked = record {
-  no_check = λ book out n check.
-      let e = arranged_once h check.arranges in
-      unasked.no_check book out n (record { positionals_are = e.0; has_budget = subst (λ cs. HasBudget cs n) (sym e.1) check.has_budget });
-  no_verify = λ deriv verify.
-      let e = arranged_once h verify.arranges in
-      unasked.no_verify deriv (record { budget = verify.budget; positionals_are = e.0; has_budget = subst (λ cs. HasBudget cs verify.budget) (sym e.1) verify.has_budget });
-}
+budget_once : {texts : List Text} {n m : ℕ} → HasBudget texts n → HasBudget texts m → m ≡ n
+budget_once default default = refl
+budget_once (stated h) (stated k) = refl
 
-pub check_asked : {words ps bs : List Text} (book out : Text) (n : ℕ) → Arranges words ps bs → AskCheck ps bs book out n → IsCheck words book out n
-check_asked {words = words} {bs = bs} book out n h asks = record { budgets = bs; arranges = subst (λ qs. Arranges words qs bs) asks.positionals_are h; has_budget = asks.has_budget }
+asked_once : {ps bs : List Text} {c d : Command} → IsAskedBy ps bs c → IsAskedBy ps bs d → c ≡ d
+asked_once {c = c} {d = d} h k =
+    one_command c d h.budget (sym h.positionals_are ∙ k.positionals_are) h.takes
+    (subst (TakesBudget d) (budget_once h.has_budget k.has_budget) k.takes)
 
-pub verify_asked : {words ps bs : List Text} (deriv : Text) → Arranges words ps bs → AskVerify ps bs deriv → IsVerify words deriv
-verify_asked {words = words} {bs = bs} deriv h asks = record {
-  budgets = bs;
-  budget = asks.budget;
-  arranges = subst (λ qs. Arranges words qs bs) asks.positionals_are h;
-  has_budget = asks.has_budget;
-}
+-- what any arrangement of the words asks for, this one does
+asked_here : {words ps bs : List Text} {c : Command} → Arranges words ps bs → Asks words c → IsAskedBy ps bs c
+asked_here {c = c} h asks =
+    let e = arranged_once asks.arranges h in
+    subst (λ qs. IsAskedBy qs _ c) e.0 (subst (λ cs. IsAskedBy asks.positionals cs c) e.1 asks.asked)
 
-pub asked : (words ps bs : List Text) (r : Option Command) → Arranges words ps bs → AskFor ps bs r → AreAsked words r
-asked words ps bs None h asks = nothing_asked h asks
-asked words ps bs (Some (command.Check c)) h asks = check_asked c.book.now c.out.now c.budget h asks
-asked words ps bs (Some (command.Verify deriv)) h asks = verify_asked deriv.now h asks
+pub command_once : {words : List Text} {c d : Command} → Asks words c → Asks words d → c ≡ d
+command_once h k = asked_once h.asked (asked_here h.arranges k)
+
+pub asks_by : {words ps bs : List Text} {c : Command} → Arranges words ps bs → IsAskedBy ps bs c → Asks words c
+asks_by {ps = ps} {bs = bs} h asked = record { positionals = ps; budgets = bs; arranges = h; asked = asked }
+
+pub nothing_asked : {words ps bs : List Text} → Arranges words ps bs → ((c : Command) → IsAskedBy ps bs c → ⊥) → IsNoCommand words
+nothing_asked h other = λ c asks. other c (asked_here h asks)
+
+pub asked : (words ps bs : List Text) (r : Option code.Command) → Arranges words ps bs → AskFor ps bs r → AreAsked words r
+asked words ps bs None h other = nothing_asked h other
+asked words ps bs (Some c) h by = asks_by h by

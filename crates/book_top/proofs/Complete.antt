@@ -1,6 +1,5 @@
 -- What can be done is done, unless memory runs out: no other answer is left.
-use Rattle.std.proofs.Common.{◌≡◌, ◌≤◌, ◌⊎◌, inl, inr, ⊎_elim, ℕ, List, [], ◌∷◌, ◌++◌, length, IsTrue, Option, None, Some, Ok, refl, sym, ap, subst, ◌∙◌, arith}
-use Rattle.std.proofs.lemmas.Bool.{cases_lt}
+use Rattle.std.proofs.Common.{◌≡◌, ◌≤◌, ℕ, List, ◌∷◌, ◌++◌, length, IsTrue, Option, None, Some, Ok, refl, sym, ap, subst, ◌∙◌, arith}
 use Rattle.fb_base.specs.Desk.{Seen, Rose}
 use Rattle.fb_parse.specs.declared.fault.ParseFault.{ParseFault}
 use Rattle.fb_parse.specs.Items.{SurfaceItem}
@@ -15,11 +14,15 @@ use Rattle.book_top.specs.Verdict.{read_item, Verdicts, Accepted, Answers, HasOu
 use Rattle.book_top.specs.Verdict as verdict
 use Rattle.book_top.specs.Spells.{Accepts, item_book}
 use Rattle.book_top.specs.Spells as spells
-use Rattle.book_top.specs.Words.{HasBudget, default, stated, IsCheck, IsVerify, IsNoCommand}
+use Rattle.book_top.specs.Command.{Command, Check, Verify, Asks}
 use Rattle.book_top.specs.Left.{Files}
-use Rattle.book_top.specs.Top.{book_limit, derivation_limit, IsFetched, IsFetchedWithin, IsLonger, IsNoBook, IsItemRefused, AnswersParse, Checks, Verifies, Outcome, IsAbsent}
-use Rattle.book_top.specs.Complete.{AreAcceptable, more, IsAcceptableBook, IsDerivationFile, CanBeDone, check, verify, IsUndisturbed, no_fault, sound, IsDoneOrMemory}
-use Rattle.book_top.proofs.CommandLines.{arranged_once, not_both}
+use Rattle.book_top.specs.Fetched.{IsFetchedWithin, IsLonger}
+use Rattle.book_top.specs.Check.{book_limit, IsFetched, IsNoBook, IsItemRefused, AnswersParse, Checks, AreAcceptable, more}
+use Rattle.book_top.specs.Check.{IsAcceptableBook}
+use Rattle.book_top.specs.Verify.{derivation_limit, Verifies, IsDerivationFile}
+use Rattle.book_top.specs.Top.{Performs, IsPossible, LacksSource, Outcome, IsAbsent}
+use Rattle.book_top.specs.Complete.{CanBeDone, IsUndisturbed, no_fault, sound, IsDoneOrMemory}
+use Rattle.book_top.proofs.CommandLines.{command_once}
 
 -- ---- each item is accepted
 
@@ -94,50 +97,28 @@ module _ (files : Files) (deriv : List ℕ) (right : IsDerivationFile files deri
   verify_completes after answer other (Verifies.desk same) = absurd (other refl)
   verify_completes after answer other (Verifies.memory same) = tt
 
+-- ---- a command
+
+performs_completes : (before after : Files) (c : Command) (answer : Status) → IsPossible before c → (answer ≡ status.Desk → ⊥)
+    → Performs before after c answer → IsDoneOrMemory answer
+performs_completes before after (Check book out budget) answer right other checks =
+    check_completes budget before book right after out answer other checks
+performs_completes before after (Verify deriv) answer right other verifies = verify_completes before deriv right after answer other verifies
+
+-- what is to be read is there
+is_there : (files : Files) (c : Command) → IsPossible files c → LacksSource files c → ⊥
+is_there files (Check book out budget) right absent = not_there (files book) right.text right.fetched.there absent
+is_there files (Verify deriv) right absent = not_there (files deriv) right.bytes right.fetched.there absent
+
 -- ---- what the words ask for
 
-abbrev second : List (List ℕ) → List ℕ
-second (a ∷ b ∷ rest) = b
-second words = []
-
-budget_once : {texts : List (List ℕ)} {n m : ℕ} → HasBudget texts n → HasBudget texts m → n ≡ m
-budget_once default default = refl
-budget_once (stated h) (stated k) = refl
-
-same_budget : {words : List (List ℕ)} (book out b o : List ℕ) (n m : ℕ) → IsCheck words book out n → IsCheck words b o m → n ≡ m
-same_budget book out b o n m h k =
-    budget_once h.has_budget (subst (λ texts. HasBudget texts m) (sym (arranged_once h.arranges k.arranges).1) k.has_budget)
-
-same_book : {words : List (List ℕ)} (book out b o : List ℕ) (n m : ℕ) → IsCheck words book out n → IsCheck words b o m → book ≡ b
-same_book book out b o n m h k = ap second (arranged_once h.arranges k.arranges).0
-
-same_file : {words : List (List ℕ)} (deriv d : List ℕ) → IsVerify words deriv → IsVerify words d → deriv ≡ d
-same_file deriv d h k = ap second (arranged_once h.arranges k.arranges).0
-
-asked_book : {files : Files} {words : List (List ℕ)} (book out : List ℕ) (budget : ℕ) → CanBeDone files words → IsCheck words book out budget → IsAcceptableBook budget files book
-asked_book {files} book out budget (check b o m asked right) also =
-    subst (λ n. IsAcceptableBook n files book) (same_budget b o book out m budget asked also)
-    (subst (λ name. IsAcceptableBook m files name) (same_book b o book out m budget asked also) right)
-asked_book book out budget (verify deriv asked right) also = absurd (not_both book out deriv budget also asked)
-
-asked_file : {files : Files} {words : List (List ℕ)} (deriv : List ℕ) → CanBeDone files words → IsVerify words deriv → IsDerivationFile files deriv
-asked_file deriv (check b o m asked right) also = absurd (not_both b o deriv m asked also)
-asked_file {files} deriv (verify d asked right) also = subst (IsDerivationFile files) (same_file d deriv asked also) right
-
-pub is_asked : {files : Files} {words : List (List ℕ)} → CanBeDone files words → IsNoCommand words → ⊥
-is_asked (check b o m asked right) unknown = unknown.no_check b o m asked
-is_asked (verify d asked right) unknown = unknown.no_verify d asked
-
--- what is to be fetched is there
-is_there : {files : Files} {words : List (List ℕ)} → CanBeDone files words → IsAbsent files words → ⊥
-is_there {files} h (IsAbsent.book b o m asked absent) = let right = asked_book b o m h asked in not_there (files b) right.text right.fetched.there absent
-is_there {files} h (IsAbsent.derivation d asked absent) = let right = asked_file d h asked in not_there (files d) right.bytes right.fetched.there absent
+possible : {files : Files} {words : List (List ℕ)} (c : Command) → CanBeDone files words → Asks words c → IsPossible files c
+possible {files} c h asked = subst (IsPossible files) (command_once h.asked asked) h.possible
 
 by_outcome : {before after : Files} {words : List (List ℕ)} (answer : Status) → CanBeDone before words → (answer ≡ status.Desk → ⊥) → Outcome before after words answer → IsDoneOrMemory answer
-by_outcome {before} {after} answer h other (Outcome.check book out budget asked checks) =
-    check_completes budget before book (asked_book book out budget h asked) after out answer other checks
-by_outcome {before} {after} answer h other (Outcome.verify deriv asked verifies) = verify_completes before deriv (asked_file deriv h asked) after answer other verifies
-by_outcome answer h other (Outcome.no_command unknown is same) = absurd (is_asked h unknown)
+by_outcome {before} {after} answer h other (Outcome.command c asked performs) =
+    performs_completes before after c answer (possible c h asked) other performs
+by_outcome answer h other (Outcome.no_command unknown is same) = absurd (unknown h.command h.asked)
 
 -- ---- the desk
 
@@ -145,20 +126,9 @@ module _ (old new : Seen) (words : List (List ℕ)) (answer : Status) where
   no_desk : CanBeDone old.files words → (answer ≡ status.Desk → Rose old.faults new.faults) → (IsTrue old.sound → answer ≡ status.Desk → IsAbsent old.files words)
       → IsUndisturbed old new → answer ≡ status.Desk → ⊥
   no_desk h rises absent (no_fault n) e = n (rises e)
-  no_desk h rises absent (sound s) e = is_there h (absent s e)
+  no_desk h rises absent (sound s) e = let a = absent s e in is_there old.files a.command (possible a.command h a.asked) a.absent
 
   pub completes : (IsTrue old.tells_files → Outcome old.files new.files words answer) → (answer ≡ status.Desk → Rose old.faults new.faults)
       → (IsTrue old.tells_files → IsTrue old.sound → answer ≡ status.Desk → IsAbsent old.files words)
       → IsTrue old.tells_files → IsUndisturbed old new → CanBeDone old.files words → IsDoneOrMemory answer
   completes outcome rises absent told undisturbed h = by_outcome answer h (no_desk h rises (absent told) undisturbed) (outcome told)
-
--- the count of faults rose on the way
-rises_within : (a b c d : ℕ) → a ≤ b → b ≤ c → Rose b c → c ≤ d → Rose a d
-rises_within a b c d ab bc (inl h) cd = inl (omega (arith, ab, h, cd))
-rises_within a b c d ab bc (inr e) cd = ⊎_elim (λ lt. inl (omega (arith, ab, bc, lt))) (λ ge. inr (omega (arith, e, cd, ge))) (cases_lt c d)
-
--- it rose where the answer was come to, or where it was said
-pub rises_by : (a b c d : ℕ) (given answer : Status) → a ≤ b → b ≤ c → c ≤ d → (given ≡ status.Desk → Rose b c) → (answer ≡ status.Desk → (given ≡ status.Desk) ⊎ Rose c d)
-    → answer ≡ status.Desk → Rose a d
-rises_by a b c d given answer ab bc cd due said is =
-    ⊎_elim (λ e. rises_within a b c d ab bc (due e) cd) (λ rose. rises_within a c d d (omega (arith, ab, bc)) cd rose (omega arith)) (said is)

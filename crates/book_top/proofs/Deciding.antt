@@ -1,4 +1,4 @@
--- Words ask for a check, for a verification, or for nothing that is known.
+-- Words ask for a command, or for nothing that is known.
 use Rattle.std.proofs.Common.{◌≡◌, ◌≢◌, ◌∙◌, ◌⊎◌, ◌<◌, ◌≤◌, ℕ, Bool, true, false, refl, sym, ap, arith, inl, inr, List, [], ◌∷◌, length, None, codes, true≢false, Result, Ok, Err, IfErr}
 use Rattle.std.specs.Str.{bytes_eq}
 use Rattle.std.specs.Str.Parse.{AllDigits, digits_value}
@@ -8,13 +8,14 @@ use Rattle.std.proofs.lemmas.Slice.Eq.{bytes_eq-Decides}
 use Rattle.clap.specs.Kinds.{Kinds}
 use Rattle.clap.specs.Walk.{Text}
 use Rattle.clap.specs.Faults.{fault_of}
-use Rattle.book_top.specs.CommandLine.{line, AskCheck, AskVerify, AskNothing}
-use Rattle.book_top.specs.Words.{Arranges, IsBudget, HasBudget, default, stated, IsDecided}
-use Rattle.book_top.specs.Words as decide
+use Rattle.book_top.specs.CommandLine.{line}
+use Rattle.book_top.specs.Words.{Arranges, IsBudget, HasBudget, default, stated}
+use Rattle.book_top.specs.Command.{Command, Check, Verify, IsAskedBy, Asks, IsDecided}
+use Rattle.book_top.specs.Command as decide
 use Rattle.book_top.proofs.LineWalk.{first}
 use Rattle.book_top.proofs.Arranged.{AreUtf8, here, some, all_pass}
 use Rattle.book_top.proofs.GivenRows.{fault_is}
-use Rattle.book_top.proofs.CommandLines.{exceeds, nothing_asked, check_asked, verify_asked}
+use Rattle.book_top.proofs.CommandLines.{exceeds, nothing_asked, asks_by}
 
 digits : (ds : Text) → AllDigits 10 ds ⊎ (AllDigits 10 ds → ⊥)
 digits [] = inl tt
@@ -65,13 +66,8 @@ is_word command word = by (bytes_eq command word) refl
 
 -- what positionals and texts of budgets ask for
 data Asked (ps bs : List Text) : Type 0 where
-  check : (book out : Text) (n : ℕ) → AskCheck ps bs book out n → Asked ps bs
-  verify : (deriv : Text) → AskVerify ps bs deriv → Asked ps bs
-  nothing : AskNothing ps bs → Asked ps bs
-
--- no budget is given that is one
-without_budget : (ps bs : List Text) → ((n : ℕ) → HasBudget bs n → ⊥) → AskNothing ps bs
-without_budget ps bs other = record { no_check = λ b o n a. other n a.has_budget; no_verify = λ d a. other a.budget a.has_budget }
+  one : (c : Command) → IsAskedBy ps bs c → Asked ps bs
+  nothing : ((c : Command) → IsAskedBy ps bs c → ⊥) → Asked ps bs
 
 abbrev Budget : List Text → Type 0
 Budget bs = ((n : ℕ) × HasBudget bs n) ⊎ ((n : ℕ) → HasBudget bs n → ⊥)
@@ -79,39 +75,57 @@ Budget bs = ((n : ℕ) × HasBudget bs n) ⊎ ((n : ℕ) → HasBudget bs n → 
 first_is : {command word : Text} {rest more : List Text} → ◌≡◌ {A = List Text} (command ∷ rest) (word ∷ more) → command ≡ word
 first_is e = cc
 
+-- positionals that are neither two nor three
+no_number : (ps bs : List Text) → (length ps ≢ 2) → (length ps ≢ 3) → (c : Command) → IsAskedBy ps bs c → ⊥
+no_number ps bs no_two no_three (Check book out budget) h = no_three (ap length h.positionals_are)
+no_number ps bs no_two no_three (Verify deriv) h = no_two (ap length h.positionals_are)
+
+other_two : (command file : Text) (bs : List Text) → command ≢ codes "verify" → (c : Command) → IsAskedBy (command ∷ file ∷ []) bs c → ⊥
+other_two command file bs other (Check book out budget) h = let e = h.positionals_are in absurd (cc)
+other_two command file bs other (Verify deriv) h = other (first_is h.positionals_are)
+
+other_three : (command file out : Text) (bs : List Text) → command ≢ codes "check" → (c : Command)
+    → IsAskedBy (command ∷ file ∷ out ∷ []) bs c → ⊥
+other_three command file out bs other (Check book o budget) h = other (first_is h.positionals_are)
+other_three command file out bs other (Verify deriv) h = let e = h.positionals_are in absurd (cc)
+
 ask_two : (command file : Text) (bs : List Text) → (command ≡ codes "verify") ⊎ (command ≢ codes "verify") → Budget bs → Asked (command ∷ file ∷ []) bs
-ask_two command file bs (inl is) (inl h) = verify file (record { budget = h.0; positionals_are = ap (λ c. c ∷ file ∷ []) is; has_budget = h.1 })
-ask_two command file bs is (inr other) = nothing (without_budget _ bs other)
-ask_two command file bs (inr other) (inl h) = nothing (record { no_check = λ b o n a. let e = a.positionals_are in cc; no_verify = λ d a. other (first_is a.positionals_are) })
+ask_two command file bs (inl is) (inl h) =
+    one (Verify file) (record { budget = h.0; positionals_are = ap (λ c. c ∷ file ∷ []) is; has_budget = h.1; takes = tt })
+ask_two command file bs is (inr other) = nothing (λ c a. other a.budget a.has_budget)
+ask_two command file bs (inr other) (inl h) = nothing (other_two command file bs other)
 
 ask_three : (command file out : Text) (bs : List Text) → (command ≡ codes "check") ⊎ (command ≢ codes "check") → Budget bs → Asked (command ∷ file ∷ out ∷ []) bs
-ask_three command file out bs (inl is) (inl h) = check file out h.0 (record { positionals_are = ap (λ c. c ∷ file ∷ out ∷ []) is; has_budget = h.1 })
-ask_three command file out bs is (inr other) = nothing (without_budget _ bs other)
-ask_three command file out bs (inr other) (inl h) = nothing (record { no_check = λ b o n a. other (first_is a.positionals_are); no_verify = λ d a. let e = a.positionals_are in cc })
+ask_three command file out bs (inl is) (inl h) =
+    one (Check file out h.0) (record { budget = h.0; positionals_are = ap (λ c. c ∷ file ∷ out ∷ []) is; has_budget = h.1; takes = refl })
+ask_three command file out bs is (inr other) = nothing (λ c a. other a.budget a.has_budget)
+ask_three command file out bs (inr other) (inl h) = nothing (other_three command file out bs other)
 
 asks : (ps bs : List Text) → Asked ps bs
-asks [] bs = nothing (record { no_check = λ b o n a. let e = a.positionals_are in cc; no_verify = λ d a. let e = a.positionals_are in cc })
-asks (a ∷ []) bs = nothing (record { no_check = λ b o n a. let e = a.positionals_are in cc; no_verify = λ d a. let e = a.positionals_are in cc })
+asks [] bs = nothing (no_number [] bs (λ e. cc) (λ e. cc))
+asks (a ∷ []) bs = nothing (no_number (a ∷ []) bs (λ e. cc) (λ e. cc))
 asks (command ∷ file ∷ []) bs = ask_two command file bs (is_word command (codes "verify")) (has_budget bs)
 asks (command ∷ file ∷ out ∷ []) bs = ask_three command file out bs (is_word command (codes "check")) (has_budget bs)
-asks (a ∷ b ∷ c ∷ d ∷ ps) bs = nothing (record { no_check = λ b o n a. let e = a.positionals_are in cc; no_verify = λ d a. let e = a.positionals_are in cc })
+asks (a ∷ b ∷ c ∷ d ∷ ps) bs = nothing (no_number (a ∷ b ∷ c ∷ d ∷ ps) bs (λ e. omega (arith, e)) (λ e. omega (arith, e)))
+
+-- a command has at most three positionals
+at_most_three : {ps bs : List Text} (c : Command) → IsAskedBy ps bs c → length ps ≤ 3
+at_most_three (Check book out budget) h = omega (arith, ap length h.positionals_are)
+at_most_three (Verify deriv) h = omega (arith, ap length h.positionals_are)
 
 pub decided : (words : List Text) → AreUtf8 words → IsDecided words
 decided words utf8 = by (fault_of line words) refl
   where
     ends : {ps bs : List Text} → Arranges words ps bs → Asked ps bs → IsDecided words
-    ends h (check book out n a) = decide.check book out n (check_asked book out n h a)
-    ends h (verify deriv a) = decide.verify deriv (verify_asked deriv h a)
-    ends h (nothing unasked) = decide.nothing (nothing_asked h unasked)
+    ends h (one c a) = decide.asked c (asks_by h a)
+    ends h (nothing other) = decide.nothing (nothing_asked h other)
 
     by : (k : Kinds) → fault_of line words ≡ k → IsDecided words
     by [] e =
         let g = all_pass words utf8 None [] 1 false (here first) (sym (fault_is words) ∙ e) in
         ends g.arranges (asks g.positionals g.budgets)
-    by (k ∷ ks) e = decide.nothing (record {
-      no_check = λ book out n check. exceeds words (λ none. some k ks (sym e ∙ none)) _ _ check.arranges (omega arith) (at_most_one check.has_budget);
-      no_verify = λ deriv verify. exceeds words (λ none. some k ks (sym e ∙ none)) _ _ verify.arranges (omega arith) (at_most_one verify.has_budget);
-    })
+    by (k ∷ ks) e = decide.nothing
+        (λ c a. exceeds words (λ none. some k ks (sym e ∙ none)) _ _ a.arranges (at_most_three c a.asked) (at_most_one a.asked.has_budget))
 
 -- a fact holds where a call fails too
 pub where_it_fails : {T E P : Type 0} (r : Result T E) → P → IfErr r (λ _. P)

@@ -19,6 +19,11 @@ pub mod Sessions
 pub mod Checks
 pub mod Runs
 pub mod Fetching
+pub mod Faults
+pub mod Answered
+pub mod BookChecks
+pub mod Verifying
+pub mod Performing
 pub mod Stops
 pub mod Reports
 pub mod Complete

@@ -15,9 +15,11 @@ use Rattle.book_top.specs.Book.{Book}
 use Rattle.book_top.specs.Verdict.{Answers, Steps, HasOutcome, answers, Accepted, TextRefused, ManyFlags, TooHigh, RuleRefused, StopsHigh, StopsNested}
 use Rattle.book_top.specs.Verdict as verdict
 use Rattle.book_top.specs.Spells.{FirstRefused}
-use Rattle.book_top.specs.Words.{IsCheck}
+use Rattle.book_top.specs.Command.{Command, Check, Verify}
 use Rattle.book_top.specs.Left.{Files}
-use Rattle.book_top.specs.Top.{IsFetched, IsRule, AnswersParse, AnswersNoCommand, AnswersOutcome, IsItemRefused, Checks, Verifies, Outcome}
+use Rattle.book_top.specs.Check.{IsFetched, IsRule, AnswersParse, AnswersOutcome, IsItemRefused, Checks, IsRefusedBook}
+use Rattle.book_top.specs.Verify.{Verifies}
+use Rattle.book_top.specs.Top.{Performs, RefusesRightly, AnswersNoCommand, Outcome}
 use Rattle.book_top.specs.Rightness.{IsLegalBook, IsUnderivable}
 use Rattle.book_top.specs.Refused.{IsRightlyRefused}
 use Rattle.book_top.proofs.Rightness.{refused_underivable}
@@ -57,21 +59,18 @@ rule_refuses number at Steps fault h = absurd (cc)
 has_none : (budget : ℕ) (b : Book) (i : SurfaceItem) (r : Refusal) → IsLegalBook b → HasOutcome budget b i (Answers (RuleRefused r)) → IsUnderivable b i r
 has_none budget b i r legal (answers {n = n} h within) = refused_underivable.underivable b i r n legal h.is
 
-module _ {files : Files} {words : List (List ℕ)} (book out : List ℕ) (budget : ℕ) (asked : IsCheck words book out budget) where
+module _ (budget : ℕ) (files : Files) (book : List ℕ) where
   first_refused : (text : List ℕ) (items : List SurfaceItem) (number : ℕ) (i : SurfaceItem) (r : Refusal) (fault : RuleFault) → IsFetched files book text → IsBookText text items
-      → FirstRefused budget items number i (Answers (RuleRefused r)) → IsRule (number + 1) i.span r fault → IsRightlyRefused files words fault
+      → FirstRefused budget items number i (Answers (RuleRefused r)) → IsRule (number + 1) i.span r fault
+      → IsRefusedBook budget files book fault
   first_refused text items number i r fault fetched parsed first names =
       let legal = books_grow.with_all budget first.before first.notes first.book first.cost first.accepted in
       record {
-        book = book;
-        out = out;
-        budget = budget;
         text = text;
         items = items;
         number = number;
         item = i;
         refusal = r;
-        asked = asked;
         fetched = fetched;
         parsed = parsed;
         first = first;
@@ -80,26 +79,37 @@ module _ {files : Files} {words : List (List ℕ)} (book out : List ℕ) (budget
         none = has_none budget first.book i r legal first.answer;
       }
 
-  item_refused : (after : Files) (answer : Status) (fault : RuleFault) → answer ≡ status.Rule fault → IsItemRefused budget files after book out answer → IsRightlyRefused files words fault
-  item_refused after answer fault is h =
+  item_refused : (after : Files) (out : List ℕ) (answer : Status) (fault : RuleFault) → answer ≡ status.Rule fault
+      → IsItemRefused budget files after book out answer
+      → IsRefusedBook budget files book fault
+  item_refused after out answer fault is h =
       let A : Status → Type 0 = λ s. AnswersOutcome (h.number + 1) h.item.span h.outcome_is s in
       let F : verdict.Outcome → Type 0 = λ o. FirstRefused budget h.items h.number h.item o in
       let found = rule_refuses (h.number + 1) h.item.span h.outcome_is fault (subst A is h.answers) in
       first_refused h.text h.items h.number h.item found.0 fault h.fetched h.parsed (subst F found.1 h.first) found.2
 
-  check_refused : (after : Files) (answer : Status) (fault : RuleFault) → answer ≡ status.Rule fault → Checks budget files after book out answer → IsRightlyRefused files words fault
-  check_refused after answer fault is (Checks.done h) = absurd (cc)
-  check_refused after answer fault is (Checks.too_long long same) = absurd (cc)
-  check_refused after answer fault is (Checks.no_book h same) = absurd (no_book_rule h.fault fault (subst (AnswersParse h.fault) is h.answers))
-  check_refused after answer fault is (Checks.item_refused h) = item_refused after answer fault is h
-  check_refused after answer fault is (Checks.desk l) = absurd (cc)
-  check_refused after answer fault is (Checks.memory l) = absurd (cc)
+  check_refused : (after : Files) (out : List ℕ) (answer : Status) (fault : RuleFault) → answer ≡ status.Rule fault
+      → Checks budget files after book out answer
+      → IsRefusedBook budget files book fault
+  check_refused after out answer fault is (Checks.done h) = absurd (cc)
+  check_refused after out answer fault is (Checks.too_long long same) = absurd (cc)
+  check_refused after out answer fault is (Checks.no_book h same) =
+      absurd (no_book_rule h.fault fault (subst (AnswersParse h.fault) is h.answers))
+  check_refused after out answer fault is (Checks.item_refused h) = item_refused after out answer fault is h
+  check_refused after out answer fault is (Checks.desk l) = absurd (cc)
+  check_refused after out answer fault is (Checks.memory l) = absurd (cc)
 
 -- ---- what the words ask for
 
+performs_refused : (before after : Files) (c : Command) (answer : Status) (fault : RuleFault) → answer ≡ status.Rule fault
+    → Performs before after c answer → RefusesRightly before c fault
+performs_refused before after (Check book out budget) answer fault is checks =
+    check_refused budget before book after out answer fault is checks
+performs_refused before after (Verify deriv) answer fault is verifies = no_verified_rule fault is verifies
+
 by_outcome : {before after : Files} {words : List (List ℕ)} (answer : Status) (fault : RuleFault) → answer ≡ status.Rule fault → Outcome before after words answer → IsRightlyRefused before words fault
-by_outcome {before} {after} answer fault is (Outcome.check book out budget asked checks) = check_refused book out budget asked after answer fault is checks
-by_outcome answer fault is (Outcome.verify deriv asked verifies) = absurd (no_verified_rule fault is verifies)
+by_outcome {before} {after} answer fault is (Outcome.command c asked performs) =
+    record { command = c; asked = asked; refused = performs_refused before after c answer fault is performs }
 by_outcome answer fault is (Outcome.no_command unknown answered same) = absurd (subst AnswersNoCommand is answered)
 
 pub rightly_refused : (old new : Seen) (words : List (List ℕ)) (answer : Status) → (IsTrue old.tells_files → Outcome old.files new.files words answer)

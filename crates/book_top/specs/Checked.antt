@@ -25,7 +25,7 @@ use Rattle.book_top.specs.Spells.{FirstRefused}
 use Rattle.book_top.specs.Left.{IsFront, IsKept, IsLeft}
 use Rattle.book_top.specs.Chunks.{IsCheckDone, LengthensPartly}
 use Rattle.book_top.specs.Judged.{IsAccepted, outcome_of}
-use Rattle.book_top.specs.Top.{AnswersParse, AnswersOutcome}
+use Rattle.book_top.specs.Check.{AnswersParse, AnswersOutcome}
 
 -- the outcome for which an item is stopped, with the terms of some bank; want of memory is none
 pub record IsOutcome (s : ItemStop) (outcome : Outcome) : Type 0 where

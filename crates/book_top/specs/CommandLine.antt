@@ -1,14 +1,15 @@
 -- The command line as `clap` sees it: three positionals and one option.
-use Rattle.std.specs.Prelude.{◌≡◌, ◌≢◌, ◌≤◌, length, List, ℕ, [], ◌∷◌, ◌++◌, true, None, Some, Option, codes, MatchOption}
+use Rattle.std.specs.Prelude.{◌≡◌, ◌≢◌, ◌≤◌, length, List, ℕ, [], ◌++◌, true, None, Some, Option, codes, MatchOption}
 use Rattle.clap.specs.Walk.{Rule, rows_of}
 use Rattle.clap.specs.Matches.{found_of}
 use Rattle.clap.specs.Simple.{App, new_app, new_rule, with_rule, on_top, matches_of}
 use Rattle.clap.specs.Faults.{fault_of}
 use Rattle.clap.specs.declared.parser.matches.ArgMatches.{ArgMatches}
-use Rattle.book_top.specs.Words.{listed, Arranges, HasBudget, IsCheck, IsVerify, IsNoCommand}
+use Rattle.book_top.specs.Words.{listed, Arranges}
+use Rattle.book_top.specs.Command.{Command, Check, Verify, IsAskedBy, Asks, IsNoCommand}
 use Rattle.book_top.specs.declared.words.Given.{Given}
-use Rattle.book_top.specs.declared.words.Command.{Command}
-use Rattle.book_top.specs.declared.words.Command.TheVariants as command
+use Rattle.book_top.specs.declared.command.Command as code
+use Rattle.book_top.specs.declared.command.Command.TheVariants as command
 
 -- the option
 abbrev pub budget_rule : Rule
@@ -44,27 +45,16 @@ pub record IsGiven (words : List (List ℕ)) (given : Given) : Type 0 where
   pub arranges : Arranges words (positionals given) (listed given.budget)
   pub order : AreInOrder given
 
--- positionals and texts of budgets that ask for a check, for a verification, or for nothing that is known
-pub record AskCheck (positionals budgets : List (List ℕ)) (book out : List ℕ) (budget : ℕ) : Type 0 where
-  pub positionals_are : positionals ≡ codes "check" ∷ book ∷ out ∷ []
-  pub has_budget : HasBudget budgets budget
+-- the command that a value of the code stands for
+abbrev pub command_of : code.Command → Command
+command_of (command.Check asked) = Check asked.book.now asked.out.now asked.budget
+command_of (command.Verify deriv) = Verify deriv.now
 
-pub record AskVerify (positionals budgets : List (List ℕ)) (deriv : List ℕ) : Type 0 where
-  pub budget : ℕ
-  pub positionals_are : positionals ≡ codes "verify" ∷ deriv ∷ []
-  pub has_budget : HasBudget budgets budget
-
-pub record AskNothing (positionals budgets : List (List ℕ)) : Type 0 where
-  pub no_check : (book out : List ℕ) (budget : ℕ) → AskCheck positionals budgets book out budget → ⊥
-  pub no_verify : (deriv : List ℕ) → AskVerify positionals budgets deriv → ⊥
-
-abbrev pub AskFor : (positionals budgets : List (List ℕ)) → Option Command → Type 0
-AskFor positionals budgets (Some (command.Check c)) = AskCheck positionals budgets c.book.now c.out.now c.budget
-AskFor positionals budgets (Some (command.Verify deriv)) = AskVerify positionals budgets deriv.now
-AskFor positionals budgets None = AskNothing positionals budgets
+-- what positionals and texts of budgets ask for
+abbrev pub AskFor : (positionals budgets : List (List ℕ)) → Option code.Command → Type 0
+AskFor positionals budgets found =
+    MatchOption found ((c : Command) → IsAskedBy positionals budgets c → ⊥) (λ asked. IsAskedBy positionals budgets (command_of asked))
 
 -- what the words ask for
-abbrev pub AreAsked : List (List ℕ) → Option Command → Type 0
-AreAsked words (Some (command.Check c)) = IsCheck words c.book.now c.out.now c.budget
-AreAsked words (Some (command.Verify deriv)) = IsVerify words deriv.now
-AreAsked words None = IsNoCommand words
+abbrev pub AreAsked : List (List ℕ) → Option code.Command → Type 0
+AreAsked words found = MatchOption found (IsNoCommand words) (λ asked. Asks words (command_of asked))

@@ -1,13 +1,21 @@
--- What is answered for a file that isn't fetched, and for the bytes of a derivation file.
-use Rattle.std.specs.Prelude.{◌≡◌, ℕ, ⊤, List, IsTrue}
+-- A file that is fetched within a limit, and what is answered for one that isn't.
+use Rattle.std.specs.Prelude.{◌≡◌, ◌<◌, ◌≤◌, ℕ, ⊤, List, length, Some, IsTrue}
 use Rattle.fb_base.specs.Desk.{Seen}
-use Rattle.dr_text.specs.declared.reader.RecordFault.{RecordFault}
-use Rattle.dr_text.specs.declared.reader.RecordFault.TheVariants as record_fault
-use Rattle.dr_check.specs.Checks.{IsRefused}
 use Rattle.book_top.specs.declared.status.LimitFault.{LimitFault}
 use Rattle.book_top.specs.declared.status.Status.{Status}
 use Rattle.book_top.specs.declared.status.Status.TheVariants as status
-use Rattle.book_top.specs.Top.{IsLonger, IsVerified}
+use Rattle.book_top.specs.Left.{Files}
+
+-- a file as it is fetched, within a limit
+pub record IsFetchedWithin (limit : ℕ) (before : Files) (name bytes : List ℕ) : Type 0 where
+  pub there : before name ≡ Some bytes
+  pub short : length bytes ≤ limit
+
+-- a file that is longer than a limit
+pub record IsLonger (limit : ℕ) (before : Files) (name : List ℕ) : Type 0 where
+  pub bytes : List ℕ
+  pub there : before name ≡ Some bytes
+  pub long : limit < length bytes
 
 -- the limit is passed, a call on the desk failed, or memory ran out
 abbrev pub StopsFetch : (most : ℕ) → LimitFault → Seen → (name : List ℕ) → Status → Type 0
@@ -15,14 +23,3 @@ StopsFetch most passed before name (status.Limit l) = (l ≡ passed) × (IsTrue 
 StopsFetch most passed before name status.Desk = ⊤
 StopsFetch most passed before name status.Memory = ⊤
 StopsFetch most passed before name _ = ⊥
-
-abbrev pub AnswersBytes : List ℕ → Status → Type 0
-AnswersBytes bytes (status.Done summary) = IsVerified bytes summary
-AnswersBytes bytes (status.BadRecord fault) = IsRefused bytes fault
-AnswersBytes bytes status.Memory = ⊤
-AnswersBytes bytes _ = ⊥
-
--- the answer for a fault of the bytes, of which want of memory is none
-abbrev pub refusal_of : RecordFault → Status
-refusal_of record_fault.Memory = status.Memory
-refusal_of f = status.BadRecord f

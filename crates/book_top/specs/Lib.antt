@@ -3,10 +3,15 @@ pub mod Names
 pub mod Verdict
 pub mod Spells
 pub mod Words
+pub mod Command
 pub mod CommandLine
 pub mod Report
 pub mod Desk
 pub mod Left
+pub mod Fetched
+pub mod Rightness
+pub mod Check
+pub mod Verify
 pub mod Top
 pub mod Built
 pub mod Judged
@@ -14,9 +19,8 @@ pub mod Told
 pub mod Chunks
 pub mod Checked
 pub mod Said
-pub mod Fetched
+pub mod Performed
 pub mod Complete
 pub mod Laws
-pub mod Rightness
 pub mod Growing
 pub mod Refused

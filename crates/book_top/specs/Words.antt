@@ -41,27 +41,3 @@ pub record IsBudget (text : List ℕ) : Type 0 where
 pub data HasBudget : (texts : List (List ℕ)) → (budget : ℕ) → Type 0 where
   default : HasBudget [] 1_000_000
   stated : {text : List ℕ} → IsBudget text → HasBudget (text ∷ []) (digits_value 10 text)
-
--- the words ask for a check of a book, whose derivation goes into a file, within a budget
-pub record IsCheck (words : List (List ℕ)) (book out : List ℕ) (budget : ℕ) : Type 0 where
-  pub budgets : List (List ℕ)
-  pub arranges : Arranges words (codes "check" ∷ book ∷ out ∷ []) budgets
-  pub has_budget : HasBudget budgets budget
-
--- the words ask for the verification of a derivation file; they may give a budget, which has no effect
-pub record IsVerify (words : List (List ℕ)) (deriv : List ℕ) : Type 0 where
-  pub budgets : List (List ℕ)
-  pub budget : ℕ
-  pub arranges : Arranges words (codes "verify" ∷ deriv ∷ []) budgets
-  pub has_budget : HasBudget budgets budget
-
--- the words ask for nothing that is known
-pub record IsNoCommand (words : List (List ℕ)) : Type 0 where
-  pub no_check : (book out : List ℕ) (budget : ℕ) → IsCheck words book out budget → ⊥
-  pub no_verify : (deriv : List ℕ) → IsVerify words deriv → ⊥
-
--- the words ask for one of these
-pub data IsDecided (words : List (List ℕ)) : Type 0 where
-  check : (book out : List ℕ) (budget : ℕ) → IsCheck words book out budget → IsDecided words
-  verify : (deriv : List ℕ) → IsVerify words deriv → IsDecided words
-  nothing : IsNoCommand words → IsDecided words

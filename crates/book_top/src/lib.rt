@@ -3,14 +3,15 @@
 
 mod build;
 mod check;
+mod command;
 mod fetch;
 mod item;
 pub mod laws;
 mod names;
+mod perform;
 mod report;
 mod status;
 mod top;
-mod verify;
 mod words;
 
 pub use status::{

@@ -1,9 +1,11 @@
 //! The words of the command line.
 ghost use Rattle.std.specs.Prelude.{◌≡◌, ℕ, All, IfOk, IfErr, MatchOption, IsUtf8};
 ghost use Rattle.clap.specs.Simple.{app_of};
-ghost use Rattle.book_top.specs.Words.{texts, listed, HasBudget, IsDecided};
+ghost use Rattle.book_top.specs.Words.{texts, listed, HasBudget};
+ghost use Rattle.book_top.specs.Command.{IsDecided};
 ghost use Rattle.book_top.specs.CommandLine.{positionals, line, Finds, Exceeds, IsGiven, AreInOrder, AreAsked, AskFor};
 
+use crate::command::{Check, Command};
 use clap::error::ErrorKind;
 use clap::{Arg, ArgMatches};
 use fb_base::NoMemory;
@@ -17,22 +19,6 @@ const MOST_BUDGET: u64 = 1_000_000_000;
 
 // How many digits a budget has at most.
 const MOST_DIGITS: usize = 10;
-
-/// What the words ask for.
-#[derive(Clone, Copy)]
-pub enum Command<'a> {
-    Check(Check<'a>),
-    /// A verification of the derivation file of this name.
-    Verify(&'a str),
-}
-
-/// A check of the book, whose derivation goes into the file `out`, within a budget of steps.
-#[derive(Clone, Copy)]
-pub struct Check<'a> {
-    pub book: &'a str,
-    pub out: &'a str,
-    pub budget: u64,
-}
 
 // The texts of the positionals, in their order, and that of the budget. The file is the one that is fetched.
 #[derive(Clone, Copy)]

@@ -4,7 +4,7 @@ use Rattle.book_top.specs.declared.check.Stop.TheVariants as stop
 use Rattle.book_top.specs.declared.item.ItemStop.TheVariants as item
 use Rattle.book_top.specs.declared.status.Status.TheVariants as status
 use Rattle.book_top.specs.Checked.{AnswersStop}
-use Rattle.book_top.proofs.top.stop_answer.Goals as goal
+use Rattle.book_top.proofs.perform.check.stop_answer.Goals as goal
 
 pub returns-in-Item-default-default-Refused-clause-answers : goal.returns-in-Item-default-default-Refused-clause-answers
 returns-in-Item-default-default-Refused-clause-answers c =
