@@ -1,15 +1,13 @@
 -- Where a chunk isn't written whole, the numbers that were given out for it are forgotten, and the writer stands for what it stood for.
-use Rattle.std.proofs.Common.{◌≡◌, ◌≢◌, ◌<◌, ◌≤◌, ◌+◌, zero, ◌⊎◌, inl, inr, ℕ, suc, List, [], ◌∷◌, ◌++◌, length, take, Option, Some, None, Result, Ok, Err, IfOk, OnOk, OnErr, refl, ap, sym, ◌∙◌, subst, arith, get_or}
+use Rattle.std.proofs.Common.{◌≡◌, ◌≢◌, ◌<◌, ◌+◌, zero, inl, inr, ℕ, suc, List, [], ◌∷◌, length, take, Option, Some, None, Result, Ok, Err, IfOk, OnOk, OnErr, refl, ap, sym, ◌∙◌, arith, get_or}
 use Rattle.std.proofs.lemmas.Bool.{cases_eq}
 use Rattle.ld_terms.specs.Item.{Item}
-use Rattle.ld_terms.specs.Known.{Known}
 use Rattle.ld_terms.specs.Record.{State, start, final}
 use Rattle.ld_terms.specs.declared.bank.TermId.{TermId}
 use Rattle.ld_record.specs.Kept.{known_of}
-use Rattle.ld_record.specs.declared.record.Kept.{Kept}
 use Rattle.dr_text.specs.declared.terms.Terms.{Terms}
 use Rattle.dr_text.specs.declared.writer.Writer.{Writer}
-use Rattle.dr_text.specs.Written.{number_in, KeepsNumbers, HasSameNumbers, Forgets, Matches, IsWritten, IsUndone}
+use Rattle.dr_text.specs.Written.{number_in, KeepsNumbers, HasSameNumbers, Forgets, Matches, IsUndone}
 
 pub keeps_none : (terms : Terms) → KeepsNumbers terms terms
 keeps_none terms = record { longer = omega arith; same = λ t n at below. at }
