@@ -3,6 +3,7 @@ pub mod Records
 pub mod Numbering
 pub mod Named
 pub mod Carrying
+pub mod Undoing
 pub mod CallerLemmas
 pub mod Tags
 pub mod Reading

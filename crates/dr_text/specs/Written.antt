@@ -32,6 +32,20 @@ pub record Matches (items : List Item) (terms : Terms) (s : State) : Type 0 wher
   pub all : length s.terms ≡ terms.written
   pub each : (t : TermId) (n : ℕ) → number_in terms.numbers.items t ≡ Some n → IsNumberOf items s t n
 
+-- later on a number from before is that of the same term
+pub record KeepsNumbers (old new : Terms) : Type 0 where
+  pub longer : old.written ≤ new.written
+  pub same : (t : TermId) (n : ℕ) → number_in new.numbers.items t ≡ Some n → n < old.written → number_in old.numbers.items t ≡ Some n
+
+pub record HasSameNumbers (old new : Terms) : Type 0 where
+  pub count : new.written ≡ old.written
+  pub same : (t : TermId) → number_in new.numbers.items t ≡ number_in old.numbers.items t
+
+-- so many terms are left, by their numbers
+pub record Forgets (count : ℕ) (old new : Terms) : Type 0 where
+  pub left : new.written ≡ count
+  pub each : (t : TermId) (n : ℕ) → number_in new.numbers.items t ≡ Some n → (n < count) × (number_in old.numbers.items t ≡ Some n)
+
 -- The content is the header and records that say what the first of the kept ones say, so many as the writer has counted.
 pub record IsWritten (items : List Item) (kept : List Kept) (writer : Writer) (content : List ℕ) : Type 0 where
   pub records : List Record
@@ -60,6 +74,12 @@ pub record GoesOn (items : List Item) (kept : List Kept) (new : Writer) (front b
 pub record Appends (items : List Item) (kept : List Kept) (old new : Writer) (before later : List ℕ) (ended : Option JudgeId) : Type 0 where
   pub all : new.written ≡ length kept
   pub goes_on : (front : List ℕ) → IsWritten items kept old front → GoesOn items kept new front before later ended
+
+-- Nothing is appended, and what the writer had written is what it has written.
+pub record IsUndone (old new : Writer) (before later : List ℕ) : Type 0 where
+  pub nothing : later ≡ before
+  pub count : new.written ≡ old.written
+  pub stays : (items : List Item) (kept : List Kept) (content : List ℕ) → IsWritten items kept old content → IsWritten items kept new content
 
 -- the bytes of one record are appended
 pub record Pushes (before later : List ℕ) (r : Record) : Type 0 where

@@ -1,5 +1,5 @@
 //! The terms of a derivation file, by their numbers there.
-ghost use Rattle.std.specs.Prelude.{◌≡◌, ◌≢◌, ◌<◌, ◌∷◌, ℕ, suc, [], length, slice_index_or, Some, None, Ok, IfOk, OnOk};
+ghost use Rattle.std.specs.Prelude.{◌≡◌, ◌≢◌, ◌<◌, ◌∷◌, ℕ, suc, [], length, slice_index_or, Some, None, Ok, IfOk, OnOk, OnErr};
 ghost use Rattle.ld_terms.specs.Item.{IsOne, IsSmall, tree};
 ghost use Rattle.ld_terms.specs.Tree.{Nil, ◌▸◌};
 ghost use Rattle.ld_terms.specs.Bank.{tree_at, list_at, item_of, IsTermAt, IsListAt, HasParts};
@@ -23,7 +23,7 @@ pub struct Terms {
 }
 
 impl Terms {
-    ghost use Rattle.dr_text.specs.Written.{number_in, Numbers, NumbersAll, WritesTerm};
+    ghost use Rattle.dr_text.specs.Written.{number_in, Numbers, NumbersAll, WritesTerm, KeepsNumbers, HasSameNumbers, Forgets};
 
     /// No terms.
     pub fn new(alloc: Global) -> Terms
@@ -34,6 +34,37 @@ impl Terms {
             numbers: Vec::new(alloc),
             written: 0,
             alloc,
+        }
+    }
+
+    /// How many terms are written.
+    pub fn count(&self) -> usize
+        ensures { result ≡ self.now.written }
+    {
+        self.written
+    }
+
+    /// Forgets the terms from a number on, where what was written of them isn't to stay.
+    pub fn forget_from(&mut self, count: usize)
+        ensures { Forgets count self.old self.new }
+    {
+        for place in 0..self.numbers.len() {
+            self.forget_above(place, count);
+        }
+        self.written = count;
+    }
+
+    // Forgets the number at a place of the table, if it isn't below the count.
+    fn forget_above(&mut self, place: usize, count: usize)
+        requires there { place < length self.old.numbers.items }
+        ensures length { length self.new.numbers.items ≡ length self.old.numbers.items }
+        ensures below { (n : ℕ) → slice_index_or self.new.numbers.items place None ≡ Some n → n < count }
+        ensures kept { (i n : ℕ) → slice_index_or self.new.numbers.items i None ≡ Some n → slice_index_or self.old.numbers.items i None ≡ Some n }
+    {
+        if let Some(number) = self.numbers[place] {
+            if number >= count {
+                self.numbers[place] = None;
+            }
         }
     }
 
@@ -49,6 +80,7 @@ impl Terms {
         ensures number { IfOk result (λ n. Numbers bank.now self.old self.new out.old.items out.new.items (tree_at bank.now t) n) }
         ensures there { (n : ℕ) → number_in self.old.numbers.items t ≡ Some n
             → (result ≡ Ok n) × (self.new ≡ self.old) × (out.new.items ≡ out.old.items) }
+        ensures keeps { KeepsNumbers self.old self.new }
     {
         if let Some(number) = self.find(t) {
             return Ok(number);
@@ -63,7 +95,8 @@ impl Terms {
         requires parts { HasParts bank.now node }
         requires form { IsOne (item_of bank.now node) }
         requires small { IsSmall (item_of bank.now node) }
-        ensures { OnOk result (WritesTerm bank.now self.old self.new out.old.items out.new.items (tree (item_of bank.now node))) }
+        ensures writes { OnOk result (WritesTerm bank.now self.old self.new out.old.items out.new.items (tree (item_of bank.now node))) }
+        ensures keeps { KeepsNumbers self.old self.new }
     {
         match node {
             Node::Star => push_record(0x01, &[], out),
@@ -100,8 +133,9 @@ impl Terms {
     ) -> Result<(usize, usize), NoMemory>
         requires first { IsTermAt bank.now a }
         requires second { IsTermAt bank.now b }
-        ensures { IfOk result (λ ns. NumbersAll bank.now self.old self.new out.old.items out.new.items
+        ensures numbers { IfOk result (λ ns. NumbersAll bank.now self.old self.new out.old.items out.new.items
             (Nil ▸ tree_at bank.now a ▸ tree_at bank.now b) (ns.0 ∷ ns.1 ∷ [])) }
+        ensures keeps { KeepsNumbers self.old self.new }
     {
         let first = self.number_of(bank, a, out)?;
         let second = self.number_of(bank, b, out)?;
@@ -117,7 +151,8 @@ impl Terms {
         out: &mut Vec<u8>,
     ) -> Result<Vec<usize>, NoMemory>
         requires { IsListAt bank.now us }
-        ensures { IfOk result (λ ns. NumbersAll bank.now self.old self.new out.old.items out.new.items (list_at bank.now us) ns.items) }
+        ensures numbers { IfOk result (λ ns. NumbersAll bank.now self.old self.new out.old.items out.new.items (list_at bank.now us) ns.items) }
+        ensures keeps { KeepsNumbers self.old self.new }
     {
         match bank.node(us) {
             Node::Cons(u, front) => {
@@ -147,6 +182,7 @@ impl Terms {
         ensures term { IfOk result (λ n. number_in self.new.numbers.items t ≡ Some n) }
         ensures others { OnOk result ((u : TermId) → u.0 ≢ t.0 → number_in self.new.numbers.items u ≡ number_in self.old.numbers.items u) }
         ensures written { OnOk result (self.new.written ≡ suc self.old.written) }
+        ensures same { OnErr result (HasSameNumbers self.old self.new) }
     {
         let number = self.written;
         // each of them has a place in the table, so more than memory holds are never there

@@ -1,10 +1,10 @@
 //! The writer of a derivation file.
-ghost use Rattle.std.specs.Prelude.{◌≡◌, ◌≤◌, List, [], length, IfSome, OnOk};
+ghost use Rattle.std.specs.Prelude.{◌≡◌, ◌≤◌, List, [], length, IfSome, OnOk, OnErr};
 ghost use Rattle.ld_terms.specs.Item.{Item};
 ghost use Rattle.ld_record.specs.Kept.{IsSound, known_of};
 ghost use Rattle.ld_record.specs.Growth.{Knows};
 ghost use Rattle.dr_text.specs.Spelling.{header};
-ghost use Rattle.dr_text.specs.Written.{IsWritten, Appends, last_judgement, Carries, WritesKept, HasTerms};
+ghost use Rattle.dr_text.specs.Written.{IsWritten, Appends, IsUndone, last_judgement, Carries, WritesKept, HasTerms, KeepsNumbers};
 
 use crate::record::{push_entry, push_equal, push_flag, push_node, push_record};
 use crate::terms::Terms;
@@ -18,6 +18,7 @@ use std::alloc::Global;
 pub struct Writer {
     terms: Terms,
     written: usize,
+    alloc: Global,
 }
 
 impl Writer {
@@ -28,11 +29,12 @@ impl Writer {
         Writer {
             terms: Terms::new(alloc),
             written: 0,
+            alloc,
         }
     }
 
-    /// Appends the records since the last chunk, and with a judgement the end of the file. After an error the writer is
-    /// not to be used again: its table may name terms that were not written.
+    /// Appends the records since the last chunk, and with a judgement the end of the file. Where memory runs out nothing is
+    /// appended, and the writer stands for what it stood for.
     pub fn chunk(
         &mut self,
         bank: &Bank,
@@ -43,7 +45,55 @@ impl Writer {
         requires sound { IsSound bank.now deriv.now }
         requires written { self.old.written ≤ length deriv.now }
         requires ended { IfSome ended (λ j. Knows (known_of bank.now deriv.now) j (last_judgement (known_of bank.now deriv.now))) }
-        ensures { OnOk result (Appends bank.now deriv.now self.old self.new out.old.items out.new.items ended) }
+        ensures ok { OnOk result (Appends bank.now deriv.now self.old self.new out.old.items out.new.items ended) }
+        ensures err { OnErr result (IsUndone self.old self.new out.old.items out.new.items) }
+    {
+        let terms = self.terms.count();
+        let written = self.written;
+        match self.append(bank, deriv, ended, out) {
+            Ok(()) => Ok(()),
+            Err(fault) => {
+                self.terms.forget_from(terms);
+                self.written = written;
+                Err(fault)
+            }
+        }
+    }
+
+    // The same, but where memory runs out the writer may count what wasn't appended.
+    fn append(
+        &mut self,
+        bank: &Bank,
+        deriv: &Deriv,
+        ended: Option<JudgeId>,
+        out: &mut Vec<u8>,
+    ) -> Result<(), NoMemory>
+        requires sound { IsSound bank.now deriv.now }
+        requires written { self.old.written ≤ length deriv.now }
+        requires ended { IfSome ended (λ j. Knows (known_of bank.now deriv.now) j (last_judgement (known_of bank.now deriv.now))) }
+        ensures ok { OnOk result (Appends bank.now deriv.now self.old self.new out.old.items out.new.items ended) }
+        ensures err { OnErr result (out.new.items ≡ out.old.items) }
+        ensures keeps { KeepsNumbers self.old.terms self.new.terms }
+    {
+        let mut chunk = Vec::new(self.alloc);
+        self.records_and_end(bank, deriv, ended, &mut chunk)?;
+        out.extend_from_slice(&chunk).map_err(|_| NoMemory)?;
+        Ok(())
+    }
+
+    // Appends the records and the end one after another.
+    fn records_and_end(
+        &mut self,
+        bank: &Bank,
+        deriv: &Deriv,
+        ended: Option<JudgeId>,
+        out: &mut Vec<u8>,
+    ) -> Result<(), NoMemory>
+        requires sound { IsSound bank.now deriv.now }
+        requires written { self.old.written ≤ length deriv.now }
+        requires ended { IfSome ended (λ j. Knows (known_of bank.now deriv.now) j (last_judgement (known_of bank.now deriv.now))) }
+        ensures ok { OnOk result (Appends bank.now deriv.now self.old self.new out.old.items out.new.items ended) }
+        ensures keeps { KeepsNumbers self.old.terms self.new.terms }
     {
         self.records(bank, deriv, out)?;
         match ended {
@@ -59,6 +109,7 @@ impl Writer {
         ensures carries { OnOk result (Carries bank.now deriv.now self.old.terms self.new.terms out.old.items out.new.items
             self.old.written (length deriv.now)) }
         ensures written { OnOk result (self.new.written ≡ length deriv.now) }
+        ensures keeps { KeepsNumbers self.old.terms self.new.terms }
     {
         for place in self.written..deriv.count() {
             push_kept(&mut self.terms, bank, deriv.kept(place), out)?;
@@ -71,7 +122,8 @@ impl Writer {
 // Appends a record, behind the terms that it names.
 fn push_kept(terms: &mut Terms, bank: &Bank, kept: &Kept, out: &mut Vec<u8>) -> Result<(), NoMemory>
     requires { HasTerms bank.now kept.now }
-    ensures { OnOk result (WritesKept bank.now terms.old terms.new out.old.items out.new.items kept.now) }
+    ensures writes { OnOk result (WritesKept bank.now terms.old terms.new out.old.items out.new.items kept.now) }
+    ensures keeps { KeepsNumbers terms.old terms.new }
 {
     match kept {
         Kept::Context(ctx, t) => {

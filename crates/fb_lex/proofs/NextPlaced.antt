@@ -13,7 +13,7 @@ use Rattle.fb_lex.proofs.Placed.{IsPlaced}
 use Rattle.fb_lex.proofs.Characters.{word_utf8}
 use Rattle.fb_lex.proofs.Fronts.{suffix_same, suffix_cons, suffix_more, suffix_drop, at_place}
 
-skips_suffix : {text rest : List ℕ} → Skips text (Ok rest) → IsSuffix rest text
+pub skips_suffix : {text rest : List ℕ} → Skips text (Ok rest) → IsSuffix rest text
 skips_suffix {text} (Skips.stop h) = suffix_same text
 skips_suffix (Skips.blank h s) = suffix_more (skips_suffix s) (suffix_cons refl)
 skips_suffix (Skips.comment {text = text} h u s) = suffix_more (suffix_more (skips_suffix s) (suffix_drop (line_length text) refl)) (suffix_cons refl)
@@ -38,7 +38,7 @@ front_shorter (Front.hole b n) h = character_shorter b
 front_shorter (Front.word b x n) h = let p = character_shorter b in let q = continued_within n in omega (arith, p, q)
 front_shorter (Front.low_word b n l) h = let p = character_shorter b in let q = continued_within n in omega (arith, p, q)
 
-front_within : {touches : Bool} {text rest : List ℕ} {kind : Kind} → Front touches text kind rest → length rest ≤ length text
+pub front_within : {touches : Bool} {text rest : List ℕ} {kind : Kind} → Front touches text kind rest → length rest ≤ length text
 front_within Front.end = omega arith
 front_within (Front.sign s) = omega arith
 front_within (Front.assign b c) = omega arith
@@ -49,7 +49,7 @@ front_within (Front.word b x n) = let p = character_shorter b in let q = continu
 front_within (Front.low_word b n l) = let p = character_shorter b in let q = continued_within n in omega (arith, p, q)
 
 -- no sign is a name
-data NoName : Option Kind → Type 0 where
+pub data NoName : Option Kind → Type 0 where
   nothing : NoName None
   some : {kind : Kind} → is_name kind ≡ false → NoName (Some kind)
 
@@ -61,14 +61,14 @@ paren_no_name : (touches : Bool) → NoName (Some (if touches then k.Touching el
 paren_no_name true = some refl
 paren_no_name false = some refl
 
-sign_no_name : (touches : Bool) (b : ℕ) → NoName (sign_of touches b)
+pub sign_no_name : (touches : Bool) (b : ℕ) → NoName (sign_of touches b)
 sign_no_name touches b =
     either (b == byte "|") (some refl) (either (b == byte "[") (some refl) (either (b == byte "]") (some refl) (either (b == byte "(") (paren_no_name touches) (either (b == byte ")") (some refl) (either (b == byte ",") (some refl) (either (b == byte ".") (some refl) (either (b == byte "*") (some refl) (either (b == byte "\n") (some refl) nothing))))))))
 
 kinds : {x y : Kind} → Some x ≡ Some y → x ≡ y
 kinds h = cc
 
-kind_no_name : {o : Option Kind} {kind : Kind} → NoName o → o ≡ Some kind → is_name kind ≡ false
+pub kind_no_name : {o : Option Kind} {kind : Kind} → NoName o → o ≡ Some kind → is_name kind ≡ false
 kind_no_name nothing h = cc
 kind_no_name (some {kind = kind} n) h = sym (ap is_name (kinds h)) ∙ n
 
@@ -82,7 +82,7 @@ front_utf8 (Front.hole b n) h = absurd (false≢true h)
 front_utf8 (Front.word b x n) h = word_utf8 _ _ _ _ b n
 front_utf8 (Front.low_word b n l) h = word_utf8 _ _ _ _ b n
 
-name_is : (kind : Kind) → is_name kind ≡ true → kind ≡ k.Name
+pub name_is : (kind : Kind) → is_name kind ≡ true → kind ≡ k.Name
 name_is k.Name h = refl
 name_is _ h = absurd (false≢true h)
 
@@ -94,7 +94,7 @@ behind_length : (text : List ℕ) (prev : Option Token) → end_of prev ≤ leng
 behind_length text None h = omega arith
 behind_length text (Some t) h = omega (arith, length-drop t.span.end text)
 
-behind_suffix : (text : List ℕ) (prev : Option Token) → IsSuffix (behind text prev) text
+pub behind_suffix : (text : List ℕ) (prev : Option Token) → IsSuffix (behind text prev) text
 behind_suffix text None = suffix_same text
 behind_suffix text (Some t) = suffix_drop t.span.end refl
 

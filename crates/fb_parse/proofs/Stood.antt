@@ -1,19 +1,22 @@
 -- The spans and names of a tree lie in its text, since the tokens of the text lie one behind the other.
 use Rattle.std.proofs.Common.{◌≡◌, ℕ, ◌-◌, ◌<◌, ◌≤◌, true, false, List, [], ◌∷◌, length, drop, Option, Some, refl, arith, length-drop}
+use Rattle.std.specs.List.{AllByRecursion}
 use Rattle.std.proofs.lemmas.Bool.{false≢true}
 use Rattle.std.proofs.lemmas.List.{length-take}
 use Rattle.fb_base.specs.declared.places.Span.{Span}
 use Rattle.fb_lex.specs.declared.tokens.Kind.{Kind}
 use Rattle.fb_lex.specs.declared.tokens.Kind.TheVariants as k
 use Rattle.fb_lex.specs.declared.tokens.Token.{Token}
-use Rattle.fb_lex.specs.Tokens.{is_end, is_name, end_of, between}
+use Rattle.fb_lex.specs.Tokens.{IsName, is_end, is_name, end_of, between, IsNext}
 use Rattle.fb_lex.specs.TokenList.{Lexeme, sign, name, seen, lexeme, TokensBehind, Ending}
 use Rattle.fb_lex.proofs.Placed.{IsPlaced}
-use Rattle.fb_lex.proofs.NextPlaced.{next_placed}
+use Rattle.fb_lex.proofs.NextPlaced.{name_is, next_placed}
+use Rattle.fb_lex.proofs.Names.{token_name}
 use Rattle.fb_parse.specs.Grammar.{Surface, Surfaces, none, more, span, applied, Term, App, Atoms, Atom, Terms, MoreTerms}
 use Rattle.fb_parse.specs.Items.{SurfaceArg, SurfaceBody, SurfaceKind, SurfaceItem, IsArg, MoreArgs, IsArgs, IsFilling, IsWay, IsBody, IsEntry, IsItem, IsLines}
 use Rattle.fb_parse.specs.Standing.{IsNameBytes, LiesIn, HoldsName, count, TermStands, TermsStand, ArgStands, ArgsStand, BodyStands, KindStands, ItemStands, ItemsStand}
 use Rattle.fb_parse.specs.Texts.{IsTermText, IsBookText}
+use Rattle.fb_parse.specs.Laws.{ItemNamesAreSpelled}
 
 -- from a place on, the tokens lie one behind the other in the text, and the names are those of their spans
 abbrev Placed : List ℕ → ℕ → List Lexeme → Type 0
@@ -29,12 +32,13 @@ placed_within text from (name x s e ∷ ts) p = let rest = placed_within text e 
 between_length : (text : List ℕ) (s e : ℕ) → s ≤ e → e ≤ length text → length (between text s e) ≡ e - s
 between_length text s e p q = omega (arith, length-take (e - s) (drop s text), length-drop s text)
 
-name_bytes : (text : List ℕ) (from : ℕ) (t : Token) → IsPlaced text from t → is_name t.kind ≡ true → is_end t.kind ≡ false → IsNameBytes (between text t.span.start t.span.end)
-name_bytes text from t p named other =
+name_bytes : (text : List ℕ) (prev : Option Token) (t : Token) → end_of prev ≤ length text → IsNext text prev t → IsPlaced text (end_of prev) t → is_name t.kind ≡ true → is_end t.kind ≡ false
+    → IsNameBytes (between text t.span.start t.span.end)
+name_bytes text prev t from n p named other =
     let l = between_length text t.span.start t.span.end p.ordered p.within in
     let w = p.wide other in
     let s = p.short named in
-    record { some = omega (arith, l, w); short = omega (arith, l, s); utf8 = p.utf8 named }
+    record { spelled = token_name text prev t from n (name_is t.kind named); some = omega (arith, l, w); short = omega (arith, l, s); utf8 = p.utf8 named }
 
 name_no_end : (kind : Kind) → is_name kind ≡ true → is_end kind ≡ false
 name_no_end k.End h = absurd (false≢true h)
@@ -44,12 +48,14 @@ placed_lexeme : (text : List ℕ) (kind : Kind) (s e from : ℕ) (ts : List Lexe
 placed_lexeme text k.Name s e from ts p q n r = (p, q, r, n refl, refl)
 placed_lexeme text _ s e from ts p q n r = (p, q, r)
 
-placed_seen : (text : List ℕ) (from : ℕ) (t : Token) (ts : List Lexeme) → IsPlaced text from t → Placed text t.span.end ts → Placed text from (seen text t ∷ ts)
-placed_seen text from t ts p r = placed_lexeme text t.kind t.span.start t.span.end from ts p.behind p.ordered (λ named. name_bytes text from t p named (name_no_end t.kind named)) r
+placed_seen : (text : List ℕ) (prev : Option Token) (t : Token) (ts : List Lexeme) → end_of prev ≤ length text → IsNext text prev t → IsPlaced text (end_of prev) t
+    → Placed text t.span.end ts → Placed text (end_of prev) (seen text t ∷ ts)
+placed_seen text prev t ts from n p r =
+    placed_lexeme text t.kind t.span.start t.span.end (end_of prev) ts p.behind p.ordered (λ named. name_bytes text prev t from n p named (name_no_end t.kind named)) r
 
 pub tokens_placed : {text : List ℕ} {prev : Option Token} {ts : List Lexeme} {e : Ending} → end_of prev ≤ length text → TokensBehind text prev ts e → Placed text (end_of prev) ts
-tokens_placed {text} {prev} within (TokensBehind.last {t = t} n h) = let p = next_placed text prev t within n in placed_seen text (end_of prev) t [] p p.within
-tokens_placed {text} {prev} within (TokensBehind.more {t = t} n h r) = let p = next_placed text prev t within n in placed_seen text (end_of prev) t _ p (tokens_placed {prev = Some t} p.within r)
+tokens_placed {text} {prev} within (TokensBehind.last {t = t} n h) = let p = next_placed text prev t within n in placed_seen text prev t [] within n p p.within
+tokens_placed {text} {prev} within (TokensBehind.more {t = t} n h r) = let p = next_placed text prev t within n in placed_seen text prev t _ within n p (tokens_placed {prev = Some t} p.within r)
 tokens_placed within (TokensBehind.fault i) = within
 
 -- A part from one place to another, what it says, and the tokens behind it.
@@ -240,3 +246,10 @@ term_text_stands h = let p = h.parses 0 in (term_stands p.last.2 (tokens_placed 
 
 pub book_text_stands : {text : List ℕ} {items : List SurfaceItem} → IsBookText text items → ItemsStand text items
 book_text_stands {text} h = lines_stand text 0 (h.parses 0) (tokens_placed (omega arith) h.are)
+
+names_spelled : (text : List ℕ) (items : List SurfaceItem) → ItemsStand text items → AllByRecursion (λ i. IsName i.name) items
+names_spelled text [] h = tt
+names_spelled text (i ∷ items) h = (h.0.name.name.spelled, names_spelled text items h.1)
+
+pub item_names_are_spelled : ItemNamesAreSpelled
+item_names_are_spelled text items h = names_spelled text items (book_text_stands h)

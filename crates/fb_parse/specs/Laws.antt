@@ -1,5 +1,7 @@
 -- What a text is as a term or a book, or why it is none, is determined by the text.
 use Rattle.std.specs.Prelude.{◌≡◌, ◌≢◌, ℕ, List}
+use Rattle.std.specs.List.{AllByRecursion}
+use Rattle.fb_lex.specs.Tokens.{IsName}
 use Rattle.fb_lex.specs.TokenList.{Lexeme}
 use Rattle.fb_parse.specs.declared.fault.ParseFault.{ParseFault}
 use Rattle.fb_parse.specs.declared.fault.ParseFault.TheVariants.{Memory}
@@ -38,3 +40,7 @@ OneRefusalOfTerms = (text : List ℕ) (f g : ParseFault) → Refuses text Begins
 -- A text is refused as a book in one way at most, apart from want of memory.
 abbrev pub OneRefusalOfBooks : Type 0
 OneRefusalOfBooks = (text : List ℕ) (f g : ParseFault) → Refuses text BeginsBook f → Refuses text BeginsBook g → f ≢ Memory → g ≢ Memory → f ≡ g
+
+-- The name of each item of a book is one token for itself, a name of at most 255 bytes.
+abbrev pub ItemNamesAreSpelled : Type 0
+ItemNamesAreSpelled = (text : List ℕ) (items : List SurfaceItem) → IsBookText text items → AllByRecursion (λ i. IsName i.name) items

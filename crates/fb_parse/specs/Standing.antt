@@ -2,12 +2,13 @@
 use Rattle.std.specs.Prelude.{◌≡◌, ℕ, suc, ◌<◌, ◌≤◌, List, [], ◌∷◌, length}
 use Rattle.std.specs.Str.{IsUtf8}
 use Rattle.fb_base.specs.declared.places.Span.{Span}
-use Rattle.fb_lex.specs.Tokens.{between}
+use Rattle.fb_lex.specs.Tokens.{IsName, between}
 use Rattle.fb_parse.specs.Grammar.{Surface, Surfaces, Star, Box_, Name, Inst, Apply, Fun, All, Arrow, none, more}
 use Rattle.fb_parse.specs.Items.{SurfaceArg, Hole, Given, SurfaceBody, Plain, Intro, Elim, Same, Fill, SurfaceKind, Flag, Prim, Line, SurfaceItem}
 
--- the bytes of a name
+-- the bytes of a name: one token for themselves, which is a name, and so text that isn't empty
 pub record IsNameBytes (x : List ℕ) : Type 0 where
+  pub spelled : IsName x
   pub some : 0 < length x
   pub short : length x ≤ 255
   pub utf8 : IsUtf8 x

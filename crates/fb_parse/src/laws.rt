@@ -1,5 +1,6 @@
-//! The laws of reading: a text is one term or one book at most, or is refused in one way, apart from want of memory.
-ghost use Rattle.fb_parse.specs.Laws.{OneReadingAsTerm, OneReadingAsBook, OneTerm, OneBook, TermsAreNotRefused, BooksAreNotRefused, OneRefusalOfTerms, OneRefusalOfBooks};
+//! The laws of reading: a text is one term or one book at most, or is refused in one way, apart from want of memory. The items of
+//! a book have names of the text form.
+ghost use Rattle.fb_parse.specs.Laws.{OneReadingAsTerm, OneReadingAsBook, OneTerm, OneBook, TermsAreNotRefused, BooksAreNotRefused, OneRefusalOfTerms, OneRefusalOfBooks, ItemNamesAreSpelled};
 
 /// A list of tokens is one term at most, and the book of one list of items.
 pub fn one_reading()
@@ -27,4 +28,9 @@ pub fn not_refused()
 pub fn one_refusal()
     ensures terms { OneRefusalOfTerms }
     ensures books { OneRefusalOfBooks }
+{}
+
+/// Each entry and each flag of a book has a name as the tokens have it, and so one that can be written and read again.
+pub fn item_names_are_spelled()
+    ensures { ItemNamesAreSpelled }
 {}

@@ -8,9 +8,8 @@ use Rattle.std.proofs.lemmas.Bool.Decides.{nat_tests}
 use Rattle.std.proofs.lemmas.List.{take_all}
 use Rattle.unicode_ident.proofs.IdentLemmas.{is_xid_start-ascii, is_xid_continue-ascii}
 use Rattle.fb_lex.specs.declared.tokens.Kind.TheVariants as k
-use Rattle.fb_lex.specs.Tokens.{Continued, word_kind, Front}
+use Rattle.fb_lex.specs.Tokens.{Continued, word_kind, Front, IsName}
 use Rattle.fb_lex.proofs.Characters.{continued_none, continued_more}
-use Rattle.fb_write.specs.Writable.{IsName}
 use Rattle.fb_write.proofs.Ahead.{ends_apart}
 use Rattle.fb_write.proofs.Words.{ascii_begins}
 use Rattle.fb_show.specs.Display.{base_length, level_name}

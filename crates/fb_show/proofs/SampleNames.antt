@@ -3,9 +3,8 @@ use Rattle.std.proofs.Common.{◌≡◌, ℕ, zero, suc, ◌<◌, true, false, L
 use Rattle.std.specs.Prelude.{codes}
 use Rattle.unicode_ident.proofs.IdentLemmas.{is_xid_start-ascii}
 use Rattle.std.specs.Char.{is_ascii_alphabetic}
-use Rattle.fb_lex.specs.Tokens.{Front, word_kind}
+use Rattle.fb_lex.specs.Tokens.{Front, word_kind, IsName}
 use Rattle.fb_lex.proofs.Characters.{continued_none}
-use Rattle.fb_write.specs.Writable.{IsName}
 use Rattle.fb_write.proofs.Ahead.{ends_apart}
 use Rattle.fb_write.proofs.Words.{ascii_begins}
 use Rattle.ld_env.specs.declared.env.Entry.{Entry}

@@ -7,9 +7,8 @@ use Rattle.std.specs.Str.{encode_utf8_all, IsUtf8}
 use Rattle.std.proofs.lemmas.Bool.{false≢true}
 use Rattle.std.proofs.lemmas.List.{append-nil}
 use Rattle.fb_lex.specs.declared.tokens.Kind.{Kind}
-use Rattle.fb_lex.specs.Tokens.{BeginsWithCharacter, Continued, Front, is_name}
-use Rattle.fb_write.specs.Writable.{IsName}
-use Rattle.fb_write.proofs.Words.{sign_tells}
+use Rattle.fb_lex.specs.Tokens.{BeginsWithCharacter, Continued, Front, IsName, is_name}
+use Rattle.fb_lex.proofs.Names.{sign_tells}
 
 word_utf8 : (c : ℕ) (text behind : List ℕ) → BeginsWithCharacter text c behind → Continued behind [] → IsUtf8 text
 word_utf8 c text behind p w =

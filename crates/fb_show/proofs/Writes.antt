@@ -9,7 +9,8 @@ use Rattle.ld_terms.specs.Item.{height, greatest_height}
 use Rattle.fb_parse.specs.Grammar.{Surface, Surfaces, Star, Box_, Name, Inst, Apply, Fun, All, Arrow, none, more}
 use Rattle.fb_write.specs.Canonical.{nowhere, is_compound, is_open_ended}
 use Rattle.fb_write.specs.Writable as can
-use Rattle.fb_write.specs.Writable.{IsName, inside, IsWritable, AreWritable, AreArguments}
+use Rattle.fb_lex.specs.Tokens.{IsName}
+use Rattle.fb_write.specs.Writable.{inside, IsWritable, AreWritable, AreArguments}
 use Rattle.fb_show.specs.Display.{level_name, avoids, behind, applied, instance, product, all_shown, display}
 use Rattle.fb_show.specs.Formed.{IsFormed, AreFormed}
 use Rattle.fb_show.specs.Laws.{AreNames, ShownIsWritable}

@@ -5,7 +5,8 @@ use Rattle.ld_terms.specs.Tree.{Tree}
 use Rattle.ld_terms.specs.Item.{height}
 use Rattle.fb_scope.specs.State.{State}
 use Rattle.fb_scope.specs.Names.{tree_of}
-use Rattle.fb_write.specs.Writable.{IsName, IsWritable}
+use Rattle.fb_lex.specs.Tokens.{IsName}
+use Rattle.fb_write.specs.Writable.{IsWritable}
 use Rattle.fb_show.specs.Display.{is_taken, base_length, level_name, display}
 use Rattle.fb_show.specs.Formed.{IsFormed, AreDistinct, NamesLevels}
 

@@ -4,7 +4,7 @@ ghost use Rattle.ld_terms.specs.Tree as tree;
 ghost use Rattle.ld_terms.specs.Item.{height_of};
 ghost use Rattle.ld_terms.specs.Bank.{item_at, tree_at, list_at, IsTermAt, IsListAt};
 ghost use Rattle.ld_env.specs.Named.{names_of};
-ghost use Rattle.fb_write.specs.Writable.{IsName};
+ghost use Rattle.fb_lex.specs.Tokens.{IsName};
 ghost use Rattle.fb_show.specs.Formed.{IsFormed, AreFormed};
 ghost use Rattle.fb_show.specs.Laws.{AreNames};
 ghost use Rattle.fb_show.specs.Shown.{params_of};

@@ -2,11 +2,11 @@
 use Rattle.std.proofs.Common.{◌≡◌, ℕ, zero, suc, Bool, true, false, not, ◌&&◌, List, [], ◌∷◌, ◌++◌, refl, ap, ◌∙◌, arith, append_assoc}
 use Rattle.std.specs.Prelude.{codes}
 use Rattle.fb_lex.specs.declared.tokens.Kind.TheVariants as k
-use Rattle.fb_lex.specs.Tokens.{Front}
+use Rattle.fb_lex.specs.Tokens.{Front, IsName}
 use Rattle.fb_parse.specs.Grammar.{Surface, Surfaces, more}
 use Rattle.fb_parse.specs.Items.{SurfaceArg, Hole, Given, SurfaceBody, Plain, Intro, Elim, Same, Fill, SurfaceKind, Flag, Prim, Line, SurfaceItem}
 use Rattle.fb_write.specs.Canonical.{arg_text, more_args_text, filling_text, body_text, kind_text, bars_text, item_text, items_text}
-use Rattle.fb_write.specs.Writable.{IsName, AreWritable, IsWritableArg, AreWritableArgs, IsWritableBody, IsWritableKind, IsWritableItem, AreWritableItems}
+use Rattle.fb_write.specs.Writable.{AreWritable, IsWritableArg, AreWritableArgs, IsWritableBody, IsWritableKind, IsWritableItem, AreWritableItems}
 use Rattle.fb_write.proofs.Ahead.{is_apart, ends_apart}
 use Rattle.fb_write.proofs.Pieces.{Piece, piece, gap, pieces_text, Lexes}
 use Rattle.fb_write.proofs.Words.{ascii_begins, prim_stands, by_stands, name_stands, intro_name, elim_name, same_name, use_name}

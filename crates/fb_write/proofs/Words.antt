@@ -1,17 +1,14 @@
 -- Reserved words and names, and what may stand behind them.
-use Rattle.std.proofs.Common.{◌≡◌, ℕ, ◌-◌, ◌<◌, ◌==◌, Bool, true, false, ◌||◌, if◌then◌else◌, List, [], ◌∷◌, ◌++◌, length, take, Option, Some, None, refl, ap, ◌∙◌, sym, arith}
+use Rattle.std.proofs.Common.{◌≡◌, ℕ, ◌-◌, ◌<◌, ◌==◌, Bool, true, false, ◌||◌, List, [], ◌∷◌, ◌++◌, length, take, refl, ap, ◌∙◌, sym, arith}
 use Rattle.std.specs.Prelude.{codes}
 use Rattle.std.specs.Char.{is_ascii_alphabetic, is_ascii_alphanumeric}
-use Rattle.std.specs.Str.{byte}
-use Rattle.std.proofs.lemmas.Bool.{false≢true}
 use Rattle.std.proofs.lemmas.Str.{encode_ascii}
 use lib.Utf8.{low_scalar}
 use Rattle.unicode_ident.proofs.IdentLemmas.{is_xid_start-ascii, is_xid_continue-ascii}
-use Rattle.fb_lex.specs.declared.tokens.Kind.{Kind}
 use Rattle.fb_lex.specs.declared.tokens.Kind.TheVariants as k
-use Rattle.fb_lex.specs.Tokens.{BeginsWithCharacter, Continued, sign_of, word_kind, Front, is_name}
+use Rattle.fb_lex.specs.Tokens.{BeginsWithCharacter, Continued, word_kind, Front, IsName}
 use Rattle.fb_lex.proofs.Characters.{continued_none, continued_more}
-use Rattle.fb_write.specs.Writable.{IsName}
+use Rattle.fb_lex.proofs.Names.{front_any}
 use Rattle.fb_write.proofs.Ahead.{is_apart, ends_apart, front_before}
 
 pub ascii_begins : (c : ℕ) (text : List ℕ) → c < 128 → BeginsWithCharacter (c ∷ text) c text
@@ -71,36 +68,6 @@ same_name = record { front = word 115 (codes "ame") false (omega arith) refl (le
 pub use_name : IsName (codes "use")
 use_name = record { front = word 117 (codes "se") false (omega arith) refl (letter 115 (omega arith) refl (letter 101 (omega arith) refl none)); short = omega arith }
 
--- A name is one whether or not it touches another.
-abbrev tells_name : Option Kind → Bool
-tells_name None = false
-tells_name (Some k) = is_name k
-
-either : (c : Bool) (x y : Option Kind) → tells_name x ≡ false → tells_name y ≡ false → tells_name (if c then x else y) ≡ false
-either true x y p q = p
-either false x y p q = q
-
-sign_no_name : (t : Bool) (b : ℕ) → tells_name (sign_of t b) ≡ false
-sign_no_name t b =
-    either (b == byte "|") _ _ refl (either (b == byte "[") _ _ refl (either (b == byte "]") _ _ refl (either (b == byte "(") _ _ (paren t) (either (b == byte ")") _ _ refl
-    (either (b == byte ",") _ _ refl (either (b == byte ".") _ _ refl (either (b == byte "*") _ _ refl (either (b == byte "\n") _ _ refl refl))))))))
-  where
-    paren : (u : Bool) → tells_name (Some (if u then k.Touching else k.LParen)) ≡ false
-    paren true = refl
-    paren false = refl
-
-pub sign_tells : (t : Bool) (b : ℕ) {kind : Kind} → sign_of t b ≡ Some kind → false ≡ is_name kind
-sign_tells t b s = sym (sign_no_name t b) ∙ ap tells_name s
-
-pub front_any : {t : Bool} {text rest : List ℕ} {kind : Kind} (u : Bool) → Front t text kind rest → is_name kind ≡ true → Front u text kind rest
-front_any u Front.end h = absurd (false≢true h)
-front_any {t} u (Front.sign {b = b} s) h = absurd (false≢true (sign_tells t b s ∙ h))
-front_any u (Front.assign b c) h = absurd (false≢true h)
-front_any u (Front.colon b n) h = absurd (false≢true h)
-front_any u (Front.arrow b c) h = absurd (false≢true h)
-front_any u (Front.hole p e) h = absurd (false≢true h)
-front_any u (Front.word p x w) h = Front.word p x w
-front_any u (Front.low_word p w l) h = Front.low_word p w l
-
+-- a name, where what stands behind it does not go on with it
 pub name_stands : (t : Bool) {x : List ℕ} (w : List ℕ) → IsName x → is_apart w ≡ true → Front t (x ++ w) k.Name w
 name_stands t w n h = front_before w (front_any t n.front refl) refl h

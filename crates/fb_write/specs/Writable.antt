@@ -1,17 +1,11 @@
 -- The trees that some text gives within the limits: their names are names, their lists aren't too short, and their canonical text
 -- doesn't nest too deep.
-use Rattle.std.specs.Prelude.{ℕ, ◌+◌, ◌≤◌, Bool, true, false, List, [], ◌∷◌, length}
+use Rattle.std.specs.Prelude.{ℕ, ◌+◌, ◌≤◌, Bool, true, false, List, [], ◌∷◌}
 use Rattle.fb_base.specs.declared.places.Span.{Span}
-use Rattle.fb_lex.specs.declared.tokens.Kind.TheVariants as k
-use Rattle.fb_lex.specs.Tokens.{Front}
+use Rattle.fb_lex.specs.Tokens.{IsName}
 use Rattle.fb_parse.specs.Grammar.{Surface, Surfaces, Star, Box_, Name, Inst, Apply, Fun, All, Arrow, none, more}
 use Rattle.fb_parse.specs.Items.{SurfaceArg, Hole, Given, SurfaceBody, Plain, Intro, Elim, Same, Fill, SurfaceKind, Flag, Prim, Line, SurfaceItem}
 use Rattle.fb_write.specs.Canonical.{is_open_ended, is_compound}
-
--- The bytes are one token, which is a name, of at most 255 bytes.
-pub record IsName (x : List ℕ) : Type 0 where
-  pub front : Front false x k.Name []
-  pub short : length x ≤ 255
 
 -- the nesting of a part that stands in parentheses or not
 abbrev pub inside : Bool → ℕ → ℕ

@@ -1,6 +1,6 @@
 use Rattle.std.proofs.Common.{sym, subst}
 use Rattle.ld_env.specs.Named.{names_of}
-use Rattle.fb_write.specs.Writable.{IsName}
+use Rattle.fb_lex.specs.Tokens.{IsName}
 use Rattle.fb_show.specs.Laws.{AreNames}
 use Rattle.fb_show.proofs.SampleNames.{one_more_name}
 use Rattle.fb_show.proofs.tests.push.Goals as goal

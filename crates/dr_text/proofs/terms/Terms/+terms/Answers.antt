@@ -36,51 +36,51 @@ pub number_of-returns-clause-number : goal.number_of-returns-clause-number
 number_of-returns-clause-number t c =
     if_ok_three c.keep.result _
     (λ n number at others count. numbered_last c.args.bank.now c.args.self.now c.write.new.self c.keep.new.self c.args.out.now.items c.write.new.out.items c.args.t _ n
-    c.requires.live (ap item.tree c.node.ensures.tree) (c.in_ok-write.ensures {u = tt}) number at others count)
+    c.requires.live (ap item.tree c.node.ensures.tree) (c.in_ok-write.ensures.writes) number at others count)
     c.keep.ensures.number c.keep.ensures.term c.keep.ensures.others c.keep.ensures.written
 
-pub numbers_of-returns-in_ok-map_err-in-Cons : goal.numbers_of-returns-in_ok-map_err-in-Cons
-numbers_of-returns-in_ok-map_err-in-Cons t c =
+pub numbers_of-returns-in_ok-map_err-in-Cons-clause-numbers : goal.numbers_of-returns-in_ok-map_err-in-Cons-clause-numbers
+numbers_of-returns-in_ok-map_err-in-Cons-clause-numbers t c =
     let pushed : c.push.new.self.items ≡ c.in_ok-numbers-in-Cons.numbers.items ++ c.in_ok-number-in-Cons.number ∷ [] = grind (arith, common_steps) in
     let all = all_numbered_more c.args.bank.now c.args.self.now c.numbers_of.new.self c.number_of.new.self c.args.out.now.items c.numbers_of.new.out.items c.number_of.new.out.items
     (list_at c.args.bank.now c.in-Cons.front) (tree_at c.args.bank.now c.in-Cons.u) c.in_ok-numbers-in-Cons.numbers.items c.in_ok-number-in-Cons.number
-    (c.in_ok-numbers-in-Cons.ensures {u = tt}) c.in_ok-number-in-Cons.ensures.number in
+    (c.in_ok-numbers-in-Cons.ensures.numbers) c.in_ok-number-in-Cons.ensures.number in
     let P : Trees → Type 0 = λ us. NumbersAll c.args.bank.now c.args.self.now c.number_of.new.self c.args.out.now.items c.number_of.new.out.items us c.push.new.self.items in
     let Q : List ℕ → Type 0 = λ ns. NumbersAll c.args.bank.now c.args.self.now c.number_of.new.self c.args.out.now.items c.number_of.new.out.items
     (list_at c.args.bank.now c.in-Cons.front ▸ tree_at c.args.bank.now c.in-Cons.u) ns in
     subst P (ap item.list c.in-Cons.ensures.tree) (subst Q (sym pushed) all)
 
-pub numbers_of-returns-in-Nil : goal.numbers_of-returns-in-Nil
-numbers_of-returns-in-Nil t c =
+pub numbers_of-returns-in-Nil-clause-numbers : goal.numbers_of-returns-in-Nil-clause-numbers
+numbers_of-returns-in-Nil-clause-numbers t c =
     let P : Trees → Type 0 = λ us. NumbersAll c.args.bank.now c.args.self.now c.args.self.now c.args.out.now.items c.args.out.now.items us c.new.result.items in
     let Q : List ℕ → Type 0 = λ ns. NumbersAll c.args.bank.now c.args.self.now c.args.self.now c.args.out.now.items c.args.out.now.items Nil ns in
     let none : c.new.result.items ≡ [] = grind (arith, common_steps) in
     subst P (ap item.list c.in-Nil.ensures.tree) (subst Q (sym none) (all_numbered_none c.args.bank.now c.args.self.now c.args.out.now.items))
 
-pub numbers_of_two-returns : goal.numbers_of_two-returns
-numbers_of_two-returns t c =
+pub numbers_of_two-returns-clause-numbers : goal.numbers_of_two-returns-clause-numbers
+numbers_of_two-returns-clause-numbers t c =
     two_numbered c.args.bank.now c.args.self.now c.number_of.new.self c.number_of-2.new.self c.args.out.now.items c.number_of.new.out.items c.number_of-2.new.out.items
     (tree_at c.args.bank.now c.args.a) (tree_at c.args.bank.now c.args.b) c.in_ok-first.first c.in_ok-second.second
     c.in_ok-first.ensures.number c.in_ok-second.ensures.number
 
-pub write-returns-in-Star : goal.write-returns-in-Star
-write-returns-in-Star t c =
+pub write-returns-in-Star-clause-writes : goal.write-returns-in-Star-clause-writes
+write-returns-in-Star-clause-writes t c =
     on_ok_weaker c.push_record.result
     (λ bytes. in_form c.args.bank.now _ _ _ _ c.args.node node.Star c.in-Star.is
     (alone_written c.args.bank.now c.args.self.now _ _ tree.Star Record.Star tt (pushes_plain _ _ Record.Star refl refl bytes c.push_record.ensures.range)
     (λ s. tt) (λ s. tt) (λ s. refl)))
     c.push_record.ensures.bytes
 
-pub write-returns-in-Box_ : goal.write-returns-in-Box_
-write-returns-in-Box_ t c =
+pub write-returns-in-Box_-clause-writes : goal.write-returns-in-Box_-clause-writes
+write-returns-in-Box_-clause-writes t c =
     on_ok_weaker c.push_record-in-Box_.result
     (λ bytes. in_form c.args.bank.now _ _ _ _ c.args.node node.Box_ c.in-Box_.is
     (alone_written c.args.bank.now c.args.self.now _ _ tree.Box Record.Box tt (pushes_plain _ _ Record.Box refl refl bytes c.push_record-in-Box_.ensures.range)
     (λ s. tt) (λ s. tt) (λ s. refl)))
     c.push_record-in-Box_.ensures.bytes
 
-pub write-returns-in-Var : goal.write-returns-in-Var
-write-returns-in-Var t c =
+pub write-returns-in-Var-clause-writes : goal.write-returns-in-Var-clause-writes
+write-returns-in-Var-clause-writes t c =
     let small = small_in c.args.bank.now c.args.node (node.Var c.in-Var.index) c.in-Var.is c.requires.small in
     on_ok_weaker c.push_record-in-Var.result
     (λ bytes. in_form c.args.bank.now _ _ _ _ c.args.node (node.Var c.in-Var.index) c.in-Var.is
@@ -89,49 +89,49 @@ write-returns-in-Var t c =
     (λ s. tt) (λ s. small) (λ s. refl)))
     c.push_record-in-Var.ensures.bytes
 
-pub write-returns-in_ok-f-in-App : goal.write-returns-in_ok-f-in-App
-write-returns-in_ok-f-in-App t c =
+pub write-returns-in_ok-f-in-App-clause-writes : goal.write-returns-in_ok-f-in-App-clause-writes
+write-returns-in_ok-f-in-App-clause-writes t c =
     let n = node.App c.in-App.f c.in-App.u in
     let small = small_in c.args.bank.now c.args.node n c.in-App.is c.requires.small in
     let r = Record.App c.in_ok-f-in-App.f c.in_ok-f-in-App.u in
     on_ok_weaker c.push_record-in-App.result
     (λ bytes. in_form c.args.bank.now _ _ _ _ c.args.node n c.in-App.is
     (pair_written c.args.bank.now c.args.self.now c.numbers_of_two.new.self _ _ _ (tree_at c.args.bank.now c.in-App.f) (tree_at c.args.bank.now c.in-App.u)
-    c.in_ok-f-in-App.f c.in_ok-f-in-App.u tree.App r (λ x p q. (p, q)) (λ x h. h) (λ x. refl) (λ env h. h) tt small (c.in_ok-f-in-App.ensures {u = tt})
+    c.in_ok-f-in-App.f c.in_ok-f-in-App.u tree.App r (λ x p q. (p, q)) (λ x h. h) (λ x. refl) (λ env h. h) tt small (c.in_ok-f-in-App.ensures.numbers)
     (pushes_plain _ _ r refl refl bytes c.push_record-in-App.ensures.range)))
     c.push_record-in-App.ensures.bytes
 
-pub write-returns-in_ok-a-in-Lam : goal.write-returns-in_ok-a-in-Lam
-write-returns-in_ok-a-in-Lam t c =
+pub write-returns-in_ok-a-in-Lam-clause-writes : goal.write-returns-in_ok-a-in-Lam-clause-writes
+write-returns-in_ok-a-in-Lam-clause-writes t c =
     let n = node.Lam c.in-Lam.a c.in-Lam.m in
     let small = small_in c.args.bank.now c.args.node n c.in-Lam.is c.requires.small in
     let r = Record.Lam c.in_ok-a-in-Lam.a c.in_ok-a-in-Lam.m in
     on_ok_weaker c.push_record-in-Lam.result
     (λ bytes. in_form c.args.bank.now _ _ _ _ c.args.node n c.in-Lam.is
     (pair_written c.args.bank.now c.args.self.now c.numbers_of_two-in-Lam.new.self _ _ _ (tree_at c.args.bank.now c.in-Lam.a) (tree_at c.args.bank.now c.in-Lam.m)
-    c.in_ok-a-in-Lam.a c.in_ok-a-in-Lam.m tree.Lam r (λ x p q. (p, q)) (λ x h. h) (λ x. refl) (λ env h. h) tt small (c.in_ok-a-in-Lam.ensures {u = tt})
+    c.in_ok-a-in-Lam.a c.in_ok-a-in-Lam.m tree.Lam r (λ x p q. (p, q)) (λ x h. h) (λ x. refl) (λ env h. h) tt small (c.in_ok-a-in-Lam.ensures.numbers)
     (pushes_plain _ _ r refl refl bytes c.push_record-in-Lam.ensures.range)))
     c.push_record-in-Lam.ensures.bytes
 
-pub write-returns-in_ok-a-in-Pi : goal.write-returns-in_ok-a-in-Pi
-write-returns-in_ok-a-in-Pi t c =
+pub write-returns-in_ok-a-in-Pi-clause-writes : goal.write-returns-in_ok-a-in-Pi-clause-writes
+write-returns-in_ok-a-in-Pi-clause-writes t c =
     let n = node.Pi c.in-Pi.a c.in-Pi.b in
     let small = small_in c.args.bank.now c.args.node n c.in-Pi.is c.requires.small in
     let r = Record.Pi c.in_ok-a-in-Pi.a c.in_ok-a-in-Pi.b in
     on_ok_weaker c.push_record-in-Pi.result
     (λ bytes. in_form c.args.bank.now _ _ _ _ c.args.node n c.in-Pi.is
     (pair_written c.args.bank.now c.args.self.now c.numbers_of_two-in-Pi.new.self _ _ _ (tree_at c.args.bank.now c.in-Pi.a) (tree_at c.args.bank.now c.in-Pi.b)
-    c.in_ok-a-in-Pi.a c.in_ok-a-in-Pi.b tree.Pi r (λ x p q. (p, q)) (λ x h. h) (λ x. refl) (λ env h. h) tt small (c.in_ok-a-in-Pi.ensures {u = tt})
+    c.in_ok-a-in-Pi.a c.in_ok-a-in-Pi.b tree.Pi r (λ x p q. (p, q)) (λ x h. h) (λ x. refl) (λ env h. h) tt small (c.in_ok-a-in-Pi.ensures.numbers)
     (pushes_plain _ _ r refl refl bytes c.push_record-in-Pi.ensures.range)))
     c.push_record-in-Pi.ensures.bytes
 
-pub write-returns-in_ok-arguments-in-Const : goal.write-returns-in_ok-arguments-in-Const
-write-returns-in_ok-arguments-in-Const t c =
+pub write-returns-in_ok-arguments-in-Const-clause-writes : goal.write-returns-in_ok-arguments-in-Const-clause-writes
+write-returns-in_ok-arguments-in-Const-clause-writes t c =
     let n = node.Const c.in-Const.k c.in-Const.us in
     let small = small_in c.args.bank.now c.args.node n c.in-Const.is c.requires.small in
     let P : List ℕ → Type 0 = λ ns. Pushes c.numbers_of.new.out.items c.push_instance.new.out.items (Record.Const c.in-Const.k ns) in
     on_ok_weaker c.push_instance.result
     (λ pushes. in_form c.args.bank.now _ _ _ _ c.args.node n c.in-Const.is
     (instance_written c.args.bank.now c.args.self.now c.numbers_of.new.self _ _ _ c.in-Const.k (list_at c.args.bank.now c.in-Const.us)
-    c.in_ok-arguments-in-Const.arguments.items small (c.in_ok-arguments-in-Const.ensures {u = tt}) (subst P c.deref.ensures.value pushes)))
+    c.in_ok-arguments-in-Const.arguments.items small (c.in_ok-arguments-in-Const.ensures.numbers) (subst P c.deref.ensures.value pushes)))
     c.push_instance.ensures

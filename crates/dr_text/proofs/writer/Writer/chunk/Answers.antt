@@ -1,30 +1,14 @@
-use Rattle.std.proofs.Common.{ℕ, Option, IfSome, refl, sym, subst}
-use Rattle.std.proofs.lemmas.Result.{on_ok_weaker}
-use Rattle.ld_terms.specs.Record.{Record}
-use Rattle.ld_record.specs.Kept.{known_of}
-use Rattle.ld_record.specs.Growth.{Knows}
-use Rattle.ld_record.specs.declared.record.JudgeId.{JudgeId}
-use Rattle.dr_text.specs.Written.{Pushes, Appends, last_judgement}
-use Rattle.dr_text.proofs.Records.{pushes_plain}
-use Rattle.dr_text.proofs.Carrying.{appends_all, appends_end}
+use Rattle.std.proofs.Common.{ℕ, List, refl, sym, subst}
+use Rattle.dr_text.specs.declared.writer.Writer.{Writer}
+use Rattle.dr_text.specs.Written.{Forgets, IsUndone}
+use Rattle.dr_text.proofs.Undoing.{undone}
 use Rattle.dr_text.proofs.writer.Writer.chunk.Goals as goal
 
-pub returns-in-Some : goal.returns-in-Some
-returns-in-Some c =
-    let known = known_of c.args.bank.now c.args.deriv.now in
-    let K : Option JudgeId → Type 0 = λ ended. IfSome ended (λ j. Knows known j (last_judgement known)) in
-    let A : Option JudgeId → Type 0 = λ ended. Appends c.args.bank.now c.args.deriv.now c.args.self.now c.records.new.self c.args.out.now.items c.push_record.new.out.items ended in
-    let Q : ℕ → Type 0 = λ n. Pushes c.records.new.out.items c.push_record.new.out.items (Record.End n) in
-    on_ok_weaker c.push_record.result
-    (λ bytes. subst A (sym c.in-Some.is)
-    (appends_end c.args.bank.now c.args.deriv.now c.args.self.now c.records.new.self c.args.out.now.items c.records.new.out.items c.push_record.new.out.items c.in-Some.j
-    c.in_ok-records.ensures.carries c.in_ok-records.ensures.written (subst K c.in-Some.is c.requires.ended)
-    (subst Q c.number.ensures (pushes_plain _ _ (Record.End c.number.result) refl refl bytes c.push_record.ensures.range))))
-    c.push_record.ensures.bytes
-
-pub returns-in-None : goal.returns-in-None
-returns-in-None c =
-    let A : Option JudgeId → Type 0 = λ ended. Appends c.args.bank.now c.args.deriv.now c.args.self.now c.records.new.self c.args.out.now.items c.records.new.out.items ended in
-    subst A (sym c.in-None.is)
-    (appends_all c.args.bank.now c.args.deriv.now c.args.self.now c.records.new.self c.args.out.now.items c.records.new.out.items
-    c.in_ok-records.ensures.carries c.in_ok-records.ensures.written)
+pub returns-in-Err-clause-err : goal.returns-in-Err-clause-err
+returns-in-Err-clause-err c =
+    let old = c.args.self.now in
+    let mid = c.append.new.self in
+    let new : Writer = record { terms = c.forget_from.new.self; written = old.written; alloc = mid.alloc } in
+    let F : ℕ → Type 0 = λ n. Forgets n mid.terms new.terms in
+    let U : List ℕ → Type 0 = λ bytes. IsUndone old new c.args.out.now.items bytes in
+    subst U (sym c.in-Err.ensures.err) (undone old mid new c.args.out.now.items c.in-Err.ensures.keeps (subst F c.count-terms.ensures c.forget_from.ensures) refl)
