@@ -23,6 +23,7 @@ use Rattle.ld_record.specs.Kept as said
 use Rattle.ld_record.specs.Kept.{judgement_of, equality_of, entry_by, with_kept, known_of, Fits, FitsEntry, AreSound, IsSound}
 use Rattle.ld_record.specs.Follows.{entry_at}
 use Rattle.ld_record.specs.Laws.{IsDerivableIn, NodesAreDerivable, EnvironmentIsLegal, KeptNodesAreDerivable}
+use Rattle.ld_record.specs.Laws.{EqualitiesHold, EqualitiesAreConvertible, KeptEqualitiesAreConvertible}
 use Rattle.ld_record.proofs.Lists.{with_one_more}
 use Rattle.ld_record.proofs.Prefixes.{entry_within, take_next, entry_below, entry_or_last, converts_more}
 use Rattle.ld_record.proofs.Holding.{EntryHolds, EqualityHolds, AllHold, nothing_holds, equated, equal_converts, bound_within, judged}
@@ -235,6 +236,22 @@ all_kept_hold items known hold (k ∷ ks) h = all_kept_hold items (with_kept ite
 
 pub kept_nodes_are_derivable : KeptNodesAreDerivable
 kept_nodes_are_derivable items ks sound n live = (all_kept_hold items nothing nothing_holds ks sound.all).nodes n
+
+-- each equality converts over the entries below its bound, and over all
+equalities_hold : (known : Known) → AllHold known → EqualitiesHold known
+equalities_hold known hold e live = record {
+  within = hold.bounds e;
+  below_bound = hold.equalities e (equality_at known e).bound (omega arith) (hold.bounds e);
+  over_all =
+      subst (λ Δ. Converts Δ (equality_at known e).left (equality_at known e).right) (take_all (length known.env) known.env (omega arith))
+      (hold.equalities e (length known.env) (hold.bounds e) (omega arith));
+}
+
+pub equalities_are_convertible : EqualitiesAreConvertible
+equalities_are_convertible rs h = equalities_hold (final start rs).known (all_hold start nothing_holds rs h)
+
+pub kept_equalities_are_convertible : KeptEqualitiesAreConvertible
+kept_equalities_are_convertible items ks sound = equalities_hold (known_of items ks) (all_kept_hold items nothing nothing_holds ks sound.all)
 
 -- A judgement is led over one entry more, by the rule for an entry with a body or for a primitive.
 over_next : (Δ : Env) (e : named.Entry) (Γ : Trees) (t u : Tree) → EntryHolds Δ e → Δ ⨾ Γ ⊢ t ∶ u → Δ ++ e ∷ [] ⨾ Γ ⊢ t ∶ u
