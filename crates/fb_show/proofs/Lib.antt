@@ -1,7 +1,10 @@
 mod Bases
+mod Cuts
 mod Fills
 mod Levels
 mod NamesOk
+mod Nodes
+mod Parts
 mod Places
 mod ReadTerms
 mod SampleNames

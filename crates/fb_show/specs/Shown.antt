@@ -1,9 +1,10 @@
 -- What the parts of the code give.
 use Rattle.std.specs.Prelude.{ℕ, suc, Bool, true, false, if◌then◌else◌, List, [], ◌++◌, map, length, slice_get, codes, decimal}
+use Rattle.ld_terms.specs.Tree.{Tree, App, Lam, Pi}
 use Rattle.ld_terms.specs.Item.{Item, One, Many}
 use Rattle.ld_env.specs.Named.{Named}
 use Rattle.fb_parse.specs.Grammar.{Surface, Surfaces, Apply, none, more}
-use Rattle.fb_write.specs.Canonical.{nowhere, term_text, terms_text, in_parentheses, is_compound}
+use Rattle.fb_write.specs.Canonical.{nowhere, term_text, terms_text, in_parentheses, is_compound, is_open_ended}
 use Rattle.fb_show.specs.Display.{avoids, all_avoid, own_or}
 
 -- how many parameters each entry has
@@ -42,3 +43,25 @@ part_text enclosed a = in_parentheses enclosed (term_text a)
 abbrev pub filling_text : Surfaces → List ℕ
 filling_text none = []
 filling_text (more a us) = codes "(" ++ terms_text (more a us) ++ codes ")"
+
+-- what stands before the range of a product
+abbrev pub domain_text : (unused : Bool) → List ℕ → Surface → List ℕ
+domain_text true x a = in_parentheses (is_open_ended a) (term_text a) ++ codes " -> "
+domain_text false x a = codes "all " ++ x ++ codes " : " ++ term_text a ++ codes " . "
+
+-- terms before another
+abbrev pub before_text : Surfaces → List ℕ
+before_text none = []
+before_text (more a us) = terms_text (more a us) ++ codes ", "
+
+-- which terms are shown as compound, and as open-ended
+abbrev pub is_compound_tree : Tree → Bool
+is_compound_tree (App f u) = true
+is_compound_tree (Lam a m) = true
+is_compound_tree (Pi a b) = true
+is_compound_tree _ = false
+
+abbrev pub is_open_tree : Tree → Bool
+is_open_tree (Lam a m) = true
+is_open_tree (Pi a b) = true
+is_open_tree _ = false

@@ -11,10 +11,48 @@ ghost use Rattle.fb_show.specs.Formed.{IsFormed};
 ghost use Rattle.fb_show.specs.Shown.{params_of};
 
 use crate::filling::append;
+use crate::names::own_base;
+use crate::walk::write;
 use fb_base::NoMemory;
+use fb_scope::Scope;
+use ld_env::Env;
+use ld_terms::{Bank, TermId};
+
+/// Appends the text of a term that stands under `depth` variables, the first of which are the open flags, cut where it
+/// has more than `most` bytes.
+pub fn show_cut(
+    bank: &Bank,
+    env: &Env,
+    scope: &Scope,
+    depth: u32,
+    t: TermId,
+    most: usize,
+    out: &mut Vec<u8>,
+) -> Result<(), NoMemory>
+    requires term { IsTermAt bank.now t }
+    requires formed { IsFormed (params_of env.now) depth (tree_at bank.now t) }
+    ensures { OnOk result (out.new.items ≡ out.old.items
+        ++ cut most (shown_text (own_names scope.now) (names_of env.now) depth (tree_at bank.now t))) }
+{
+    let alloc = *out.allocator();
+    let base = own_base(alloc, env, scope, b'x')?;
+    let mut text = Vec::new(alloc);
+    let _height = bank.height(t);
+    write(
+        bank,
+        env,
+        scope,
+        &base,
+        depth as u64,
+        t,
+        most.saturating_add(1),
+        &mut text,
+    )?;
+    put_cut(&text, most, out)
+}
 
 // The text that was written up to one byte more than is allowed, as it is or cut.
-pub fn put_cut(text: &[u8], most: usize, out: &mut Vec<u8>) -> Result<(), NoMemory>
+fn put_cut(text: &[u8], most: usize, out: &mut Vec<u8>) -> Result<(), NoMemory>
     ensures { OnOk result (out.new.items ≡ out.old.items ++ cut most text.now) }
 {
     if text.len() <= most {

@@ -9,5 +9,7 @@ mod names;
 mod term;
 #[cfg(test)]
 mod tests;
+mod walk;
 
+pub use cut::show_cut;
 pub use term::show;

@@ -2,14 +2,18 @@
 ghost use Rattle.std.specs.Prelude.{◌≡◌, ◌<◌, ◌+◌, ◌^◌, ◌++◌, false, length, suc, replicate, decimal, slice_get, Some, IfOk};
 ghost use Rattle.std.specs.List.{list_any};
 ghost use Rattle.std.specs.Str as texts;
+ghost use Rattle.std.specs.String.{string_bytes};
 ghost use Rattle.ld_env.specs.Named.{names_of};
 ghost use Rattle.fb_show.specs.Display as spec;
+ghost use Rattle.fb_show.specs.Cut.{own_names};
 ghost use Rattle.fb_show.specs.Laws.{AreNames};
 
 use bumpalo::Bump;
 use bumpalo::collections::into_bump_str;
 use fb_base::NoMemory;
+use fb_scope::Scope;
 use ld_env::Env;
+use std::alloc::{Allocator, Global};
 use std::str::from_utf8;
 
 /// The base of names that begin with this letter.
@@ -18,7 +22,7 @@ pub fn base<'a>(arena: &'a Bump, env: &Env, letter: u8) -> Result<&'a str, NoMem
     ensures { IfOk result (λ s. s.now ≡ spec.base letter (names_of env.now)) }
 {
     let letters = least_free(env, env.len(), letter, 1);
-    repeated(arena, letter as char, letters)
+    Ok(into_bump_str(repeated(arena, letter as char, letters)?))
 }
 
 // The least number of letters, from so many on, that no name has before digits.
@@ -30,6 +34,43 @@ fn least_free(env: &Env, tries: u32, letter: u8, letters: u64) -> u64
         return letters;
     }
     least_free(env, tries - 1, letter, letters + 1)
+}
+
+/// The base of names that begin with this letter, where open flags have names too.
+pub fn own_base(alloc: Global, env: &Env, scope: &Scope, letter: u8) -> Result<String, NoMemory>
+    requires { letter < 128 }
+    ensures { IfOk result (λ s. string_bytes s ≡ spec.base letter (own_names scope.now ++ names_of env.now)) }
+{
+    let tries = scope.depth() as u64 + env.len() as u64;
+    let letters = own_least_free(env, scope, tries, letter, 1);
+    repeated(alloc, letter as char, letters)
+}
+
+fn own_least_free(env: &Env, scope: &Scope, tries: u64, letter: u8, letters: u64) -> u64
+    requires { letters + tries < 2 ^ 64 }
+    ensures { result ≡ spec.least_free tries letter letters (own_names scope.now ++ names_of env.now) }
+{
+    if tries == 0 || !is_own_taken(env, scope, letter, letters) {
+        return letters;
+    }
+    own_least_free(env, scope, tries - 1, letter, letters + 1)
+}
+
+fn is_own_taken(env: &Env, scope: &Scope, letter: u8, letters: u64) -> bool
+    ensures { result ≡ spec.is_taken letter letters (own_names scope.now ++ names_of env.now) }
+{
+    is_flag_taken(scope, letter, letters) || is_taken(env, letter, letters)
+}
+
+fn is_flag_taken(scope: &Scope, letter: u8, letters: u64) -> bool
+    ensures { result ≡ spec.is_taken letter letters (own_names scope.now) }
+{
+    for level in 0..scope.depth() {
+        if is_numbered(letter, letters, scope.flag_name(level)) {
+            return true;
+        }
+    }
+    false
 }
 
 fn is_taken(env: &Env, letter: u8, letters: u64) -> bool
@@ -67,17 +108,17 @@ fn are_digits(bytes: &[u8]) -> bool
 }
 
 // So many of one letter.
-fn repeated<'a>(arena: &'a Bump, letter: char, times: u64) -> Result<&'a str, NoMemory>
+fn repeated<A: Allocator>(alloc: A, letter: char, times: u64) -> Result<String<A>, NoMemory>
     requires { letter < 128 }
-    ensures { IfOk result (λ s. s.now ≡ replicate times letter) }
+    ensures { IfOk result (λ s. string_bytes s ≡ replicate times letter) }
 {
-    let mut text = String::new(arena);
+    let mut text = String::new(alloc);
     for _ in 0..times {
         if text.push(letter).is_err() {
             return Err(NoMemory);
         }
     }
-    Ok(into_bump_str(text))
+    Ok(text)
 }
 
 /// The name of a level's variable.

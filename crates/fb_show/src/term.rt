@@ -209,8 +209,8 @@ fn applied<'a>(arena: &'a Bump, head: Tree<'a>, args: &'a [Tree<'a>]) -> Result<
     node(arena, Form::Apply(head, args))
 }
 
-// Whether the variable isn't used.
-fn avoids(bank: &Bank, t: TermId, i: u64) -> bool
+/// Whether the variable isn't used.
+pub fn avoids(bank: &Bank, t: TermId, i: u64) -> bool
     requires live { IsLive bank.now t }
     requires room { i + height_of (item_at bank.now t) < 2 ^ 64 }
     ensures { result ≡ avoids_item (item_at bank.now t) i }

@@ -9,9 +9,10 @@ ghost use Rattle.fb_show.specs.Formed.{IsFormed, AreFormed};
 ghost use Rattle.fb_show.specs.Laws.{AreNames};
 ghost use Rattle.fb_show.specs.Shown.{params_of};
 
-use crate::show;
+use crate::{show, show_cut};
 use bumpalo::Bump;
 use fb_base::Text;
+use fb_scope::Scope;
 use fb_write::write_term;
 use ld_env::{Entry, Env};
 use ld_terms::{Bank, Node, TermId, Terms};
@@ -246,4 +247,61 @@ fn bases(rt: &impl Abort, alloc: Global, env: &Env, bank: &mut Bank) -> Result<(
 fn shows_names_that_no_entry_has(rt: HostRuntime) -> Result<(), Fail> {
     let alloc = rt.alloc();
     bases(&rt, alloc, &numbered_book(alloc)?, &mut Bank::new(alloc))
+}
+
+// Appends the text of the shown term, cut.
+fn put_cut(bank: &Bank, env: &Env, scope: &Scope, t: TermId, most: usize, out: &mut Vec<u8>) -> bool
+    requires term { IsTermAt bank.now t }
+{
+    let _height = bank.height(t);
+    let depth = scope.depth();
+    is_formed(bank, env, depth as u64, t) && show_cut(bank, env, scope, depth, t, most, out).is_ok()
+}
+
+fn expect_cut(
+    rt: &impl Abort,
+    alloc: Global,
+    bank: &Bank,
+    scope: &Scope,
+    t: TermId,
+    most: usize,
+    want: &[u8],
+)
+    requires term { IsTermAt bank.now t }
+{
+    let env = Env::new(alloc);
+    let mut out = Vec::new(alloc);
+    assert!(rt; put_cut(bank, &env, scope, t, most, &mut out), "{want:?}");
+    assert!(rt; out.as_slice() == want, "{want:?}");
+}
+
+// Under the flags é and x2.
+fn cuts(rt: &impl Abort, alloc: Global, scope: &Scope, bank: &mut Bank) -> Result<(), Fail> {
+    let last = bank.add(Node::Var(0))?;
+    let outer = bank.add(Node::Var(1))?;
+    let identity = bank.add(Node::Lam(outer, last))?;
+    let applied = bank.add(Node::App(identity, outer))?;
+    let text = "(fun xx3 : é . xx3) é".as_bytes();
+    expect_cut(rt, alloc, bank, scope, applied, 23, text);
+    expect_cut(
+        rt,
+        alloc,
+        bank,
+        scope,
+        applied,
+        22,
+        "(fun xx3 : é . xx3) ...".as_bytes(),
+    );
+    expect_cut(rt, alloc, bank, scope, applied, 11, b"(fun xx3 : ...");
+    expect_cut(rt, alloc, bank, scope, applied, 0, b"...");
+    Ok(())
+}
+
+#[test]
+fn cuts_between_characters(rt: HostRuntime) -> Result<(), Fail> {
+    let alloc = rt.alloc();
+    let mut scope = Scope::new(alloc);
+    scope.enter("é".as_bytes())?;
+    scope.enter(b"x2")?;
+    cuts(&rt, alloc, &scope, &mut Bank::new(alloc))
 }

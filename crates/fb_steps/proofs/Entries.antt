@@ -1,6 +1,6 @@
 -- The items of an entry: the flags of its parameters, and the items of its body, or of its instance with its own flags.
 use Rattle.std.proofs.Common.{◌≡◌, ℕ, List, [], ◌∷◌, ap, refl, sym, subst}
-use Rattle.ld_terms.specs.Tree.{Tree, Trees, Nil, ◌▸◌, Const, count}
+use Rattle.ld_terms.specs.Tree.{Tree, Trees, Nil, ◌▸◌, count}
 use Rattle.ld_terms.specs.Entry.{Body, Defined, Primitive, Entry, EntryAt, Env, UnfoldsTo, unfolds}
 use Rattle.ld_terms.specs.Derivable.{Derivable, IsLegal, IsLegalContext}
 use Rattle.ld_laws.specs.Typing.{HasSort}
@@ -13,7 +13,7 @@ use Rattle.ld_infer.specs.Reading.{SortOf}
 use Rattle.ld_infer.specs.Refusals.{IsSortOf}
 use Rattle.fb_steps.specs.Work.{flag, reads, ◌>>◌}
 use Rattle.fb_steps.specs.Steps.{entry_steps, flags_of, printed_term, steps_of}
-use Rattle.fb_steps.specs.Places.{OpenFlag, Place, context_of, variables}
+use Rattle.fb_steps.specs.Places.{OpenFlag, Place, context_of, own_instance}
 use Rattle.fb_steps.proofs.OwnFlags.{own_typed, put_own}
 use Rattle.fb_steps.proofs.Later.{later, legal_later}
 use Rattle.fb_steps.proofs.Invariant.{Differ, IsPlace, StandsFor}
@@ -24,7 +24,7 @@ use Rattle.fb_steps.proofs.Walk.{sort_means, steps_work}
 
 -- the term that an entry is printed as has the entry's type
 printed_by : {Δ : Env} (e : Entry) (k : ℕ) (b : Body) → ((t : Tree) → UnfoldsTo b t → Derivable Δ e.params t e.type) →
-    Derivable Δ e.params (Const k (variables (count e.params) (count e.params))) e.type → Derivable Δ e.params (printed_term k e.params b) e.type
+    Derivable Δ e.params (own_instance k (count e.params)) e.type → Derivable Δ e.params (printed_term k e.params b) e.type
 printed_by e k (Defined t) h d = h t unfolds
 printed_by e k Primitive h d = d
 

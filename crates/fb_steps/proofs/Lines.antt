@@ -2,7 +2,7 @@
 use Rattle.std.proofs.Common.{◌≡◌, ◌≢◌, ◌≤◌, ◌+◌, ℕ, suc, List, [], ◌∷◌, ◌++◌, length, ap, arith, refl, sym, subst, ◌∙◌}
 use mathlib.Core.Path.{subst₂}
 use Rattle.std.proofs.lemmas.List.Elements.{All-nil, All-cons, All-push}
-use Rattle.ld_terms.specs.Tree.{Tree, Const, count}
+use Rattle.ld_terms.specs.Tree.{Tree, count}
 use Rattle.ld_terms.specs.Item.{IsSmall, One}
 use Rattle.ld_terms.specs.Put.{put}
 use Rattle.ld_terms.specs.Entry.{Entry, Env, IsFresh, IsScoped, IsScopedEntry, defined, unfolds}
@@ -15,26 +15,23 @@ use Rattle.ld_laws.proofs.Converting.{Extends, extends_more}
 use Rattle.ld_laws.proofs.Entries.{made_over}
 use Rattle.ld_laws.proofs.Preservation.{instance_by}
 use Rattle.ld_convert.specs.Sameness.{AreConvertible}
+use Rattle.fb_scope.specs.Names.{implied}
 use Rattle.fb_steps.specs.Items.{Flag, Line, LineBody}
 use Rattle.fb_steps.specs.Work.{flag, line}
-use Rattle.fb_steps.specs.Places.{OpenFlag, Place, context_of, variables, numbers, closed_to, closed, with_flag, with_line, line_entry}
+use Rattle.fb_steps.specs.Places.{OpenFlag, Place, context_of, own_instance, numbers, closed_to, closed, with_flag, with_line, line_entry}
 use Rattle.fb_steps.specs.Spells.{BodyIs, Derives}
 use Rattle.fb_steps.specs.Spells as spelled
 use Rattle.fb_steps.specs.Shown.{AreShown, IsShown, IsShownBody}
 use Rattle.fb_steps.specs.Unfolded.{AreUnfolded, IsLine, IsUnfolded}
-use Rattle.fb_steps.proofs.OwnFlags.{own_typed, own_unfold, put_own, variables_count}
+use Rattle.fb_steps.proofs.OwnFlags.{own_typed, own_unfold, put_own, implied_count}
 use Rattle.fb_steps.proofs.NamedTerms.{type_well_formed, well_formed}
 use Rattle.fb_steps.proofs.Later.{as_typed, later, sort_later, type_names}
 use Rattle.fb_steps.proofs.Lists.{EndsWith, here, there, at_before, at_end, count_flags, ends_closed, ends_length, one_longer}
 use Rattle.fb_steps.proofs.Invariant.{Differ, IsPlace, Grows, UnfoldsIn, StandsFor, Replaces}
 use Rattle.fb_steps.proofs.Working.{EndsWell, Works}
 
--- an instance with the open flags
-abbrev pub own_instance : (k : ℕ) → List OpenFlag → Tree
-own_instance k fs = Const k (variables (length fs) (length fs))
-
 pub instance_replaces : {Δ : Env} {name : ℕ → List ℕ} {fs : List OpenFlag} {j : ℕ} {p : Place} {number : ℕ} {part type : Tree} →
-    IsPlace Δ name fs j p → (h : StandsFor Δ fs p number part type) → Replaces Δ fs p (own_instance (length Δ + h.before) fs) part
+    IsPlace Δ name fs j p → (h : StandsFor Δ fs p number part type) → Replaces Δ fs p (own_instance (length Δ + h.before) (length fs)) part
 instance_replaces {Δ} {fs = fs} {p = p} {part = part} {type = type} s h = record {
   typed = λ n d. as_typed (length Δ) (unfolded p.env (λ k e at. at)) typed (later s.extends s.legal d);
   unfolds = unfolded;
@@ -46,21 +43,21 @@ instance_replaces {Δ} {fs = fs} {p = p} {part = part} {type = type} s h = recor
     scoped : IsScopedEntry h.entry
     scoped = (scopes s.legal).of_env _ _ h.at
 
-    own : p.env ⨾ context_of fs ⊢ variables (length fs) (length fs) ∶∶ h.entry.params
-    own = subst₂ (λ n ps. p.env ⨾ context_of fs ⊢ variables n n ∶∶ ps) (count_flags fs) (sym h.params_are) (own_typed (context_of fs) s.legal)
+    own : p.env ⨾ context_of fs ⊢ implied (length fs) (length fs) ∶∶ h.entry.params
+    own = subst₂ (λ n ps. p.env ⨾ context_of fs ⊢ implied n n ∶∶ ps) (count_flags fs) (sym h.params_are) (own_typed (context_of fs) s.legal)
 
-    same_type : put h.entry.type (variables (length fs) (length fs)) ≡ type
+    same_type : put h.entry.type (implied (length fs) (length fs)) ≡ type
     same_type = put_own h.entry.type (length fs) (subst (IsScoped h.entry.type) many scoped.type) ∙ h.type_is
 
-    same_body : h.body ≡ put h.body (variables (length fs) (length fs))
+    same_body : h.body ≡ put h.body (implied (length fs) (length fs))
     same_body = sym (put_own h.body (length fs) (subst (IsScoped h.body) many (scoped.body h.body (unfolds_body h.has_body))))
 
-    typed : p.env ⨾ context_of fs ⊢ own_instance (length Δ + h.before) fs ∶ type
+    typed : p.env ⨾ context_of fs ⊢ own_instance (length Δ + h.before) (length fs) ∶ type
     typed = subst (Derivable p.env (context_of fs) _) same_type (instance_by s.legal (made_over s.legal _ _ h.at) h.at own)
 
-    unfolded : UnfoldsIn Δ p (own_instance (length Δ + h.before) fs) part
+    unfolded : UnfoldsIn Δ p (own_instance (length Δ + h.before) (length fs)) part
     unfolded Δ' x =
-        opened (omega arith) (x _ _ h.at) h.has_body (variables_count (length fs) (length fs) ∙ sym many) (own_unfold Δ' (length Δ) (length fs) (length fs))
+        opened (omega arith) (x _ _ h.at) h.has_body (implied_count (length fs) (length fs) ∙ sym many) (own_unfold Δ' (length Δ) (length fs) (length fs))
         (subst (λ t. Unfolded Δ' (length Δ) t part) same_body (h.unfolds Δ' x))
 
 -- a line that stands for a part of a type over the first entries

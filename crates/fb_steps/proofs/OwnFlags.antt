@@ -12,38 +12,38 @@ use Rattle.ld_laws.proofs.Putting.{put_as_sub}
 use Rattle.ld_laws.proofs.Scoping.{scopes}
 use Rattle.ld_laws.proofs.Moving.{arguments_move, suits_back}
 use Rattle.ld_laws.proofs.LegalContexts.{last_of, legal_of, lift_as_sub, sub_var, suits_same}
-use Rattle.fb_steps.specs.Places.{variables}
+use Rattle.fb_scope.specs.Names.{implied}
 
-pub variables_count : (v n : ℕ) → count (variables v n) ≡ n
-variables_count v zero = refl
-variables_count v (suc n) = ap suc (variables_count v n)
+pub implied_count : (v n : ℕ) → count (implied v n) ≡ n
+implied_count v zero = refl
+implied_count v (suc n) = ap suc (implied_count v n)
 
 -- what stands there for an index
-at_index : (v n i : ℕ) → n ≤ v → i < n → in_place (variables v n) i ≡ Var (v - n + i)
+at_index : (v n i : ℕ) → n ≤ v → i < n → in_place (implied v n) i ≡ Var (v - n + i)
 at_index v zero i le lt = absurd (omega (arith, lt))
 at_index v (suc n) zero le lt = let e : v - suc n ≡ v - suc n + 0 = omega arith in ap Var e
 at_index v (suc n) (suc i) le lt =
     let e : v - n + i ≡ v - suc n + suc i = omega (arith, le) in at_index v n i (omega (arith, le)) (omega (arith, lt)) ∙ ap Var e
 
-pub put_own : (t : Tree) (n : ℕ) → IsScoped t n → put t (variables n n) ≡ t
-put_own t n c = put_as_sub t (variables n n) ∙ sub_agree t n (in_place (variables n n)) Var c each ∙ sub_var t
+pub put_own : (t : Tree) (n : ℕ) → IsScoped t n → put t (implied n n) ≡ t
+put_own t n c = put_as_sub t (implied n n) ∙ sub_agree t n (in_place (implied n n)) Var c each ∙ sub_var t
   where
-    each : (i : ℕ) → i < n → in_place (variables n n) i ≡ Var i
+    each : (i : ℕ) → i < n → in_place (implied n n) i ≡ Var i
     each i lt = let e : n - n + i ≡ i = omega arith in at_index n n i (omega arith) lt ∙ ap Var e
 
 -- below one more variable
-moved_on : (v n : ℕ) → n ≤ v → sub_all (λ i. Var (suc i)) (variables v n) ≡ variables (suc v) n
+moved_on : (v n : ℕ) → n ≤ v → sub_all (λ i. Var (suc i)) (implied v n) ≡ implied (suc v) n
 moved_on v zero le = refl
 moved_on v (suc n) le =
     let e : suc (v - suc n) ≡ suc v - suc n = omega (arith, le) in ap₂ ◌▸◌ (moved_on v n (omega (arith, le))) (ap Var e)
 
-put_lifted : (t : Tree) (n : ℕ) → IsScoped t n → put t (variables (suc n) n) ≡ lift t 1 0
-put_lifted t n c = put_as_sub t (variables (suc n) n) ∙ sub_agree t n (in_place (variables (suc n) n)) (λ i. Var (suc i)) c each ∙ sym (lift_as_sub t)
+put_lifted : (t : Tree) (n : ℕ) → IsScoped t n → put t (implied (suc n) n) ≡ lift t 1 0
+put_lifted t n c = put_as_sub t (implied (suc n) n) ∙ sub_agree t n (in_place (implied (suc n) n)) (λ i. Var (suc i)) c each ∙ sym (lift_as_sub t)
   where
-    each : (i : ℕ) → i < n → in_place (variables (suc n) n) i ≡ Var (suc i)
+    each : (i : ℕ) → i < n → in_place (implied (suc n) n) i ≡ Var (suc i)
     each i lt = let e : suc n - n + i ≡ suc i = omega arith in at_index (suc n) n i (omega arith) lt ∙ ap Var e
 
-pub own_typed : {Δ : Env} (Γ : Trees) → IsLegalContext Δ Γ → Δ ⨾ Γ ⊢ variables (count Γ) (count Γ) ∶∶ Γ
+pub own_typed : {Δ : Env} (Γ : Trees) → IsLegalContext Δ Γ → Δ ⨾ Γ ⊢ implied (count Γ) (count Γ) ∶∶ Γ
 own_typed Nil l = none
 own_typed {Δ} (Γ ▸ a) l =
     let h = last_of l in
@@ -55,6 +55,6 @@ own_typed {Δ} (Γ ▸ a) l =
     (subst₂ (Derivable Δ (Γ ▸ a)) (ap Var z) (sym (put_lifted a c d.of_term)) (var h.is_sort h.typed))
 
 -- they unfold to themselves
-pub own_unfold : (Δ : Env) (first v n : ℕ) → UnfoldedEach Δ first (variables v n) (variables v n)
+pub own_unfold : (Δ : Env) (first v n : ℕ) → UnfoldedEach Δ first (implied v n) (implied v n)
 own_unfold Δ first v zero = unfolding_of.none
 own_unfold Δ first v (suc n) = unfolding_of.more (own_unfold Δ first v n) unfolding_of.variable

@@ -16,10 +16,11 @@ use Rattle.ld_infer.specs.Reading.{Asked, Types, SortOf}
 use Rattle.ld_infer.specs.Refusals.{HasType, IsSortOf, IsUntyped, IsUnsorted}
 use Rattle.ld_infer.proofs.Rightness.{types_mean, sorts_mean}
 use Rattle.ld_convert.proofs.Means.{Means, means_more}
+use Rattle.fb_scope.specs.Names.{implied}
 use Rattle.fb_steps.specs.Items.{Operand, Term, OfLine, Plain, Intro, Elim}
 use Rattle.fb_steps.specs.Work.{Work, done, line}
 use Rattle.fb_steps.specs.Steps.{Spine, with_operand, has_items, operand_by, introduced, steps_of, spine_of}
-use Rattle.fb_steps.specs.Places.{OpenFlag, Place, context_of, variables, numbers}
+use Rattle.fb_steps.specs.Places.{OpenFlag, Place, context_of, own_instance, numbers}
 use Rattle.fb_steps.specs.Spells.{OperandIs, term, of_line, Applies, alone, applied, BodyIs, plain, intro, elim_by, abstracted}
 use Rattle.fb_steps.specs.Shown.{IsShownOperand}
 use Rattle.fb_steps.proofs.NamedTerms.{well_formed}
@@ -28,7 +29,7 @@ use Rattle.fb_steps.proofs.Lists.{count_flags, further_flag}
 use Rattle.fb_steps.proofs.Invariant.{Differ, IsLow, IsPlace, StandsFor, Replaces, OperandFor, SpineFor}
 use Rattle.fb_steps.proofs.Growing.{outside, spine_on}
 use Rattle.fb_steps.proofs.Working.{Works, done_works, reads_works, bind_works, under_flags}
-use Rattle.fb_steps.proofs.Lines.{own_instance, instance_replaces, flag_works, line_works}
+use Rattle.fb_steps.proofs.Lines.{instance_replaces, flag_works, line_works}
 
 -- readings of what has a type or a sort
 type_means : {Δ : Env} {Γ : Trees} {t n : Tree} (q : Asked) → Derivable Δ Γ t n → Means Δ (Types Δ Γ 1 q t) (HasType Δ Γ t) (λ _. ⊥)
@@ -76,11 +77,11 @@ low_small h s le =
     record { height = omega (arith, a, c); index = omega (arith, b, e, le) }
 
 -- an instance with the open flags
-own_height : (v n : ℕ) → greatest_height (variables v n) ≤ 1
+own_height : (v n : ℕ) → greatest_height (implied v n) ≤ 1
 own_height v zero = omega arith
 own_height v (suc n) = let h = own_height v n in omega (arith, h)
 
-own_index : (v n : ℕ) → greatest_index_in (variables v n) ≤ v
+own_index : (v n : ℕ) → greatest_index_in (implied v n) ≤ v
 own_index v zero = omega arith
 own_index v (suc n) = let h = own_index v n in omega (arith, h)
 
@@ -102,7 +103,7 @@ items_high (Lam a m) e = let h = high a in omega (arith, h)
 items_high (Pi a b) e = absurd (cc)
 items_high (Const k us) e = absurd (cc)
 
-own_low : (k : ℕ) (fs : List OpenFlag) (u : Tree) → has_items u ≡ true → IsLow (count (context_of fs)) (own_instance k fs) u
+own_low : (k : ℕ) (fs : List OpenFlag) (u : Tree) → has_items u ≡ true → IsLow (count (context_of fs)) (own_instance k (length fs)) u
 own_low k fs u e =
     let a = own_height (length fs) (length fs) in
     let b = own_index (length fs) (length fs) in
@@ -110,7 +111,7 @@ own_low k fs u e =
     let g = count_flags fs in
     record { height_le = omega (arith, a, c); index_le = omega (arith, b, g) }
 
-introduced_small : (k : ℕ) (f : OpenFlag) (fs : List OpenFlag) (m : Tree) → IsSmall (One (Lam f.type m)) → count (context_of fs) ≤ 64 → IsSmall (One (Lam f.type (own_instance k (f ∷ fs))))
+introduced_small : (k : ℕ) (f : OpenFlag) (fs : List OpenFlag) (m : Tree) → IsSmall (One (Lam f.type m)) → count (context_of fs) ≤ 64 → IsSmall (One (Lam f.type (own_instance k (suc (length fs)))))
 introduced_small k f fs m s le =
     let a = own_height (length (f ∷ fs)) (length (f ∷ fs)) in
     let b = own_index (length (f ∷ fs)) (length (f ∷ fs)) in
@@ -126,7 +127,7 @@ spine_more {Δ} {fs = fs} {s = s} {b = b} is h k = record { tree = App h.tree k.
 -- what is introduced takes the place of the abstraction
 introduced_replaces : {Δ : Env} {name : ℕ → List ℕ} {f : OpenFlag} {fs : List OpenFlag} {j : ℕ} {p : Place} {number : ℕ} {m type n : Tree} →
     IsPlace Δ name fs j p → IsPlace Δ name (f ∷ fs) j p → (h : StandsFor Δ (f ∷ fs) p number m type) → Derivable Δ (context_of fs) (Lam f.type m) n →
-    Replaces Δ fs p (Lam f.type (own_instance (length Δ + h.before) (f ∷ fs))) (Lam f.type m)
+    Replaces Δ fs p (Lam f.type (own_instance (length Δ + h.before) (suc (length fs)))) (Lam f.type m)
 introduced_replaces {Δ} {f = f} {fs = fs} {p = p} {m = m} s inner h d = record {
   typed = λ n c.
       let g = generation Δ (context_of fs) (Lam f.type m) n c in
@@ -135,7 +136,7 @@ introduced_replaces {Δ} {f = f} {fs = fs} {p = p} {m = m} s inner h d = record 
   unfolds = λ Δ' x. abstraction (binder Δ') (body.unfolds Δ' x);
 }
   where
-    body : Replaces Δ (f ∷ fs) p (own_instance (length Δ + h.before) (f ∷ fs)) m
+    body : Replaces Δ (f ∷ fs) p (own_instance (length Δ + h.before) (suc (length fs))) m
     body = instance_replaces inner h
 
     binder : (Δ' : Env) → Unfolded Δ' (length Δ) f.type f.type
@@ -143,10 +144,10 @@ introduced_replaces {Δ} {f = f} {fs = fs} {p = p} {m = m} s inner h d = record 
 
 -- the instance with all flags of a parameter list, abstracted over the last
 abbrev abstracted_once : (k : ℕ) → Trees → (n : ℕ) → Tree
-abstracted_once k ps n = abstracted 1 ps (Const k (variables n n))
+abstracted_once k ps n = abstracted 1 ps (own_instance k n)
 
 introduced_is : {Δ : Env} {f : OpenFlag} {fs : List OpenFlag} {p : Place} {number : ℕ} {m type : Tree} → (h : StandsFor Δ (f ∷ fs) p number m type) →
-    BodyIs (length Δ) p.marks fs p.env (Intro number) (Lam f.type (own_instance (length Δ + h.before) (f ∷ fs)))
+    BodyIs (length Δ) p.marks fs p.env (Intro number) (Lam f.type (own_instance (length Δ + h.before) (suc (length fs))))
 introduced_is {Δ} {f} {fs} {p} h =
     subst₂ (λ n t. BodyIs (length Δ) p.marks fs p.env (Intro n) t) (sym h.number_is) same
     (intro h.before 1 (numbers (f ∷ fs)) h.entry h.at h.mark (further_flag f fs))
@@ -154,7 +155,7 @@ introduced_is {Δ} {f} {fs} {p} h =
     k : ℕ
     k = length Δ + h.before
 
-    same : abstracted_once k h.entry.params (count h.entry.params) ≡ Lam f.type (own_instance k (f ∷ fs))
+    same : abstracted_once k h.entry.params (count h.entry.params) ≡ Lam f.type (own_instance k (suc (length fs)))
     same = ap (λ ps. abstracted_once k ps (count ps)) h.params_are ∙ ap (abstracted_once k (context_of (f ∷ fs))) (count_flags (f ∷ fs))
 
 module _ (Δ : Env) (name : ℕ → List ℕ) (differ : Differ name) where
@@ -178,8 +179,8 @@ module _ (Δ : Env) (name : ℕ → List ℕ) (differ : Differ name) where
     where
       of_that : {type : Tree} (number : ℕ) (o : Place) (l : ℕ) → IsPlace Δ name fs l o → StandsFor Δ fs o number u type → OperandFor Δ fs o (OfLine number) u
       of_that number o l there stands = record {
-        tree = own_instance (length Δ + stands.before) fs;
-        is = subst (λ k. OperandIs (length Δ) o.marks fs (OfLine k) (own_instance (length Δ + stands.before) fs)) (sym stands.number_is) (of_line stands.before stands.mark);
+        tree = own_instance (length Δ + stands.before) (length fs);
+        is = subst (λ k. OperandIs (length Δ) o.marks fs (OfLine k) (own_instance (length Δ + stands.before) (length fs))) (sym stands.number_is) (of_line stands.before stands.mark);
         shown = tt;
         replaces = instance_replaces there stands;
         low = own_low (length Δ + stands.before) fs u e;

@@ -1,7 +1,8 @@
 -- What a book has come to where printed items are read after it: its entries, the flags under which each was made, and the open flags.
-use Rattle.std.specs.Prelude.{ℕ, zero, suc, ◌-◌, List, [], ◌∷◌, ◌++◌, length, map, reverse, drop}
-use Rattle.ld_terms.specs.Tree.{Tree, Trees, Var, Nil, ◌▸◌}
+use Rattle.std.specs.Prelude.{ℕ, suc, ◌-◌, List, [], ◌∷◌, ◌++◌, length, map, reverse, drop}
+use Rattle.ld_terms.specs.Tree.{Tree, Trees, Const, Nil, ◌▸◌}
 use Rattle.ld_terms.specs.Entry.{Entry, Env, Defined}
+use Rattle.fb_scope.specs.Names.{implied}
 
 -- an open flag: its number, which no other flag has, and its type
 pub record OpenFlag : Type 0 where
@@ -13,10 +14,9 @@ abbrev pub context_of : List OpenFlag → Trees
 context_of [] = Nil
 context_of (f ∷ fs) = context_of fs ▸ f.type
 
--- the variables of the outermost n of v open flags
-abbrev pub variables : (v n : ℕ) → Trees
-variables v zero = Nil
-variables v (suc n) = variables v n ▸ Var (v - suc n)
+-- the instance of an entry with the variables of so many flags, where no others are open
+abbrev pub own_instance : (k flags : ℕ) → Tree
+own_instance k n = Const k (implied n n)
 
 -- the numbers of open flags, outermost first
 abbrev pub numbers : List OpenFlag → List ℕ

@@ -1,12 +1,12 @@
 -- What printed items spell, and when each of them has a derivation after those before it.
 use Rattle.std.specs.Prelude.{◌≡◌, ℕ, zero, suc, ◌+◌, ◌≤◌, List, [], ◌∷◌, length, Some, slice_get}
-use Rattle.ld_terms.specs.Tree.{Tree, App, Lam, Const, Trees, Nil, ◌▸◌, count}
+use Rattle.ld_terms.specs.Tree.{Tree, App, Lam, Trees, Nil, ◌▸◌, count}
 use Rattle.ld_terms.specs.Entry.{Entry, EntryAt, Env, IsFresh}
 use Rattle.ld_terms.specs.Derivable.{Derivable}
 use Rattle.ld_laws.specs.Typing.{HasSort}
 use Rattle.fb_scope.specs.Resolve.{further}
 use Rattle.fb_steps.specs.Items.{Operand, Term, OfLine, LineBody, Plain, Intro, Elim, Item, Flag, Line}
-use Rattle.fb_steps.specs.Places.{OpenFlag, Place, context_of, variables, numbers, closed_to, closed, with_flag, with_line}
+use Rattle.fb_steps.specs.Places.{OpenFlag, Place, context_of, own_instance, numbers, closed_to, closed, with_flag, with_line}
 
 -- a term abstracted over the last of the parameters, so many, the first of them outermost
 abbrev pub abstracted : ℕ → (params : Trees) → Tree → Tree
@@ -20,7 +20,7 @@ module _ (first : ℕ) (marks : List (List ℕ)) (flags : List OpenFlag) where
   pub data OperandIs : Operand → Tree → Type 0 where
     term : {t : Tree} → OperandIs (Term t) t
     of_line : (j : ℕ) → slice_get marks (first + j) ≡ Some (numbers flags) →
-        OperandIs (OfLine (suc j)) (Const (first + j) (variables (length flags) (length flags)))
+        OperandIs (OfLine (suc j)) (own_instance (first + j) (length flags))
 
   -- a term applied to operands
   pub data Applies : Tree → List Operand → Tree → Type 0 where
@@ -31,7 +31,7 @@ module _ (first : ℕ) (marks : List (List ℕ)) (flags : List OpenFlag) where
   pub data BodyIs (env : Env) : LineBody → Tree → Type 0 where
     plain : {t : Tree} → BodyIs env (Plain t) t
     intro : (j n : ℕ) (mark : List ℕ) (e : Entry) → EntryAt env (first + j) e → slice_get marks (first + j) ≡ Some mark → further mark (numbers flags) ≡ Some n →
-        BodyIs env (Intro (suc j)) (abstracted n e.params (Const (first + j) (variables (count e.params) (count e.params))))
+        BodyIs env (Intro (suc j)) (abstracted n e.params (own_instance (first + j) (count e.params)))
     elim_by : {f t : Tree} {bs : List Operand} → Applies f bs t → BodyIs env (Elim f bs) t
 
 -- And lines have these names, by their numbers, which are those of their places behind the first entries.

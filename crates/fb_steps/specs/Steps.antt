@@ -5,7 +5,7 @@ use Rattle.ld_terms.specs.Entry.{Entry, Body, Defined, Primitive, Env}
 use Rattle.ld_infer.specs.declared.failure.RuleName.TheVariants.{Weak, Appl, Abst}
 use Rattle.ld_infer.specs.Reading.{Types, SortOf}
 use Rattle.fb_steps.specs.Items.{Operand, Term, OfLine, Plain, Intro, Elim}
-use Rattle.fb_steps.specs.Places.{variables}
+use Rattle.fb_steps.specs.Places.{own_instance}
 use Rattle.fb_steps.specs.Work.{Work, done, flag, line, reads, ◌>>=◌, ◌>>◌}
 
 -- the head of an application and what it is applied to
@@ -70,7 +70,7 @@ flags_of env (ps ▸ p) = flags_of env ps >> (reads (SortOf env ps 1 (Weak, 2) p
 -- the term that an entry is printed as: its body, or the instance with its own flags
 abbrev pub printed_term : (k : ℕ) → (params : Trees) → Body → Tree
 printed_term k params (Defined body) = body
-printed_term k params Primitive = Const k (variables (count params) (count params))
+printed_term k params Primitive = own_instance k (count params)
 
 abbrev pub entry_steps : Env → (k : ℕ) → Entry → Work ℕ
 entry_steps env k e = flags_of env e.params >> steps_of env e.params (printed_term k e.params e.body) e.type
